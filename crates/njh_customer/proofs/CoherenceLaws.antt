@@ -48,9 +48,13 @@ streamed_still xs ys same all k d h = let e : shape (get_or xs k d) ≡ shape (g
 pub shape_waiting : (l : ℕ) (before : List CustomerLine) → StaysWaiting l (IsSeen shape before)
 shape_waiting l before = seen_waiting shape l before (record { answers = λ a x. refl; messages = λ m x. refl })
 
+-- an entry of the same quota, the same limit of files, and as many marks
+abbrev pub IsEntryLike : (new old : CustomerEntry) → Type 0
+IsEntryLike new old = (new.quota ≡ old.quota) × (new.files ≡ old.files) × (length new.up ≡ length old.up)
+
 -- the streams are the same, and the files changed harmlessly
 pub record IsLike (d c : Customer) : Type 0 where
-  pub entry : d.entry ≡ c.entry
+  pub entry : IsEntryLike d.entry c.entry
   pub lines : shapes d.lines ≡ shapes c.lines
   pub files : IsHarmless c.spool d.spool
 
@@ -60,9 +64,9 @@ coherent_still d c like coherent = record {
       (untouched (streams_to_hub c.lines) c.spool d.spool like.files.partial coherent.tied);
   streamed = streamed_still d.lines c.lines like.lines coherent.streamed;
   headers = like.files.headers coherent.headers;
-  quota = ap (λ (l : ℕ × ℕ). l.0) like.files.limits ∙ coherent.quota ∙ ap (λ e. e.quota) (sym like.entry);
-  limit = ap (λ (l : ℕ × ℕ). l.1) like.files.limits ∙ coherent.limit ∙ ap (λ e. e.files) (sym like.entry);
-  marks = ap (λ e. length e.up) like.entry ∙ coherent.marks ∙ sym (as_many shape d.lines c.lines like.lines);
+  quota = ap (λ (l : ℕ × ℕ). l.0) like.files.limits ∙ coherent.quota ∙ sym like.entry.0;
+  limit = ap (λ (l : ℕ × ℕ). l.1) like.files.limits ∙ coherent.limit ∙ sym like.entry.1;
+  marks = like.entry.2 ∙ coherent.marks ∙ sym (as_many shape d.lines c.lines like.lines);
 }
 
 -- ---- the stream at a place
@@ -146,7 +150,7 @@ keeps_arrived l k a c line_there stream_there coherent =
     let told = with_notice_to c.entry done.notice (with_answer_on l answer lines) in
     let waiting = shape_waiting l lines in
     coherent_still (after_arrival l k done c) (moved l k done c) (record {
-      entry = refl;
+      entry = (refl, refl, refl);
       lines = on_line_seen shape l (with_notice k done.receiver done.notice) told (λ x. refl)
           ∙ notified_so l (IsSeen shape lines) waiting c.entry done.notice (with_answer_on l answer lines)
           (answered_so l (IsSeen shape lines) waiting answer lines refl);
@@ -176,32 +180,25 @@ fresh_coherent entry few = record {
 pub lines_coherent : (lines : List CustomerLine) (c : Customer) → shapes lines ≡ shapes c.lines → IsCoherent c
     → IsCoherent (record c { lines = lines })
 lines_coherent lines c same = coherent_still (record c { lines = lines }) c
-    (record { entry = refl; lines = same; files = restated_harmless c.spool c.spool (as_it_is c.spool) })
+    (record { entry = (refl, refl, refl); lines = same; files = restated_harmless c.spool c.spool (as_it_is c.spool) })
 
 -- a mark on a line
-raised_coherent : (up : Bool) (l : ℕ) (c : Customer) → IsCoherent c
-    → IsCoherent (record c { entry = with_raised_line up l c.entry })
-raised_coherent true l c coherent = record {
-  tied = coherent.tied;
-  streamed = coherent.streamed;
-  headers = coherent.headers;
-  quota = coherent.quota;
-  limit = coherent.limit;
-  marks = length-set c.entry.up l true ∙ coherent.marks;
-}
-raised_coherent false l c coherent = coherent
+raised_like : (up : Bool) (l : ℕ) (entry : CustomerEntry) → IsEntryLike (with_raised_line up l entry) entry
+raised_like true l entry = (refl, refl, length-set entry.up l true)
+raised_like false l entry = (refl, refl, refl)
 
 pub accepted_coherent : (l : ℕ) (came : Input) (c : Customer) → IsCoherent c → IsCoherent (accepted_on l came c)
-accepted_coherent l came c coherent =
-    let lines = on_line l (in_state (after_input came)) c.lines in
-    raised_coherent (goes_up_by l came c) l (record c { lines = lines })
-    (lines_coherent lines c (on_line_seen shape l (in_state (after_input came)) c.lines (λ x. refl)) coherent)
+accepted_coherent l came c = coherent_still (accepted_on l came c) c (record {
+  entry = raised_like (goes_up_by l came c) l c.entry;
+  lines = on_line_seen shape l (in_state (after_input came)) c.lines (λ x. refl);
+  files = restated_harmless c.spool c.spool (as_it_is c.spool);
+})
 
 -- a stream from the hub moves, and its file
 sent_coherent : (l k : ℕ) (sent : SenderOutcome) (c : Customer) → IsHarmless c.spool sent.spool → IsCoherent c
     → IsCoherent (with_sender_outcome l k sent c)
 sent_coherent l k sent c files = coherent_still (with_sender_outcome l k sent c) c (record {
-  entry = refl;
+  entry = (refl, refl, refl);
   lines = on_line_seen shape l (with_sender k sent.sender) c.lines (λ x. refl);
   files = files;
 })
@@ -212,7 +209,7 @@ command_coherent n c =
     let done = message_outcome c.entry (sender_of n) n.message c.spool in
     let lines = fold without_sending c.lines done.cancelled in
     coherent_still (after_user_command n c) c (record {
-      entry = refl;
+      entry = (refl, refl, refl);
       lines = all_told_so l (IsSeen shape lines) (shape_waiting l lines) c.entry (sender_of n) done.replies lines refl
           ∙ given_up_so (IsSeen shape c.lines) (λ m xs so. each_same shape (with_senders_by (without_file m))
           (λ x. refl) xs ∙ so) done.cancelled c.lines refl;
@@ -223,7 +220,7 @@ pub order_coherent : OrdersKeepCoherent
 order_coherent (orders.Command owner text) c =
     let done = message_outcome c.entry owner text c.spool in
     coherent_still (customer_after_order (orders.Command owner text) c) c (record {
-      entry = refl;
+      entry = (refl, refl, refl);
       lines = given_up_so (IsSeen shape c.lines) (λ m xs so. each_same shape (with_senders_by (without_file m))
           (λ x. refl) xs ∙ so) done.cancelled c.lines refl;
       files = record { partial = refl; limits = refl; headers = headers_kept c.entry owner text c.spool };

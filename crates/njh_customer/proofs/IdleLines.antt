@@ -76,6 +76,25 @@ given_up_idle n x idle = record {
   served = idle.served;
 }
 
+-- a message waits on a line, and streams give a file up
+waiting_rests : (k : ℕ) (m : List ℕ) (lines : List CustomerLine) → IdleUnlessUp lines
+    → IdleUnlessUp (with_waiting k m lines)
+waiting_rests k m lines rest =
+    let x = line_at k lines in
+    set_rests k (in_state (with_message m) x) lines (others k lines rest)
+    (λ there down. message_idle m x (rest k there down))
+
+given_up_at : (n : ℕ) (lines : List CustomerLine) (m : ℕ)
+    → line_at m (without_sending lines n) ≡ with_senders_by (without_file n) (line_at m lines)
+given_up_at n lines m = get_or-map (with_senders_by (without_file n)) lines m no_customer_line
+
+given_up_rests : (n : ℕ) (lines : List CustomerLine) → IdleUnlessUp lines → IdleUnlessUp (without_sending lines n)
+given_up_rests n lines rest m there down =
+    let it = given_up_at n lines m in
+    subst IsIdle (sym it) (given_up_idle n (line_at m lines)
+    (rest m (omega (arith, there, length-map lines (with_senders_by (without_file n))))
+    (ap (λ x. is_up (phase_of x)) (sym it) ∙ down)))
+
 module _ (l : ℕ) where
   -- the line changes
   own : (f : CustomerLine → CustomerLine) (lines : List CustomerLine) → KeepsPhase f → UpAndRest l lines
@@ -88,35 +107,24 @@ module _ (l : ℕ) where
             (λ _ down. absurd (cc (sym down ∙ ap is_up (same x) ∙ r.up)));
       }
 
-  waits : (k : ℕ) (m : List ℕ) (lines : List CustomerLine) → UpAndRest l lines → UpAndRest l (with_waiting k m lines)
-  waits k m lines r =
-      let x = line_at k lines in
-      record {
-        up = ap is_up (same_phase l k (in_state (with_message m)) lines (λ y. refl)) ∙ r.up;
-        rest = set_rests k (in_state (with_message m) x) lines (others k lines r.rest)
-            (λ there down. message_idle m x (r.rest k there down));
-      }
-
-  given_up : (n : ℕ) (lines : List CustomerLine) → UpAndRest l lines → UpAndRest l (without_sending lines n)
-  given_up n lines r = record {
-    up = ap (λ x. is_up (phase_of x)) (it l) ∙ r.up;
-    rest = λ m there down. subst IsIdle (sym (it m)) (given_up_idle n (line_at m lines)
-        (r.rest m (omega (arith, length-map lines (with_senders_by (without_file n))))
-        (ap (λ x. is_up (phase_of x)) (sym (it m)) ∙ down)));
-  }
-    where
-      it : (m : ℕ) → line_at m (without_sending lines n) ≡ with_senders_by (without_file n) (line_at m lines)
-      it m = get_or-map (with_senders_by (without_file n)) lines m no_customer_line
-
   acting : StaysOnLines l (UpAndRest l)
   acting = record {
     receiving = record {
-      waiting = record { answers = λ a lines r. own (in_state (with_answer a)) lines (λ x. refl) r; waits = waits };
+      waiting = record {
+        answers = λ a lines r. own (in_state (with_answer a)) lines (λ x. refl) r;
+        waits = λ k m lines r. record {
+          up = ap is_up (same_phase l k (in_state (with_message m)) lines (λ y. refl)) ∙ r.up;
+          rest = waiting_rests k m lines r.rest;
+        };
+      };
       receives = λ k receiver lines r. own (with_receiver k receiver) lines (λ x. refl) r;
       notes = λ k receiver n lines r. own (with_notice k receiver n) lines (λ x. refl) r;
     };
     sends = λ k s lines r. own (with_sender k s) lines (λ x. refl) r;
-    gives_up = given_up;
+    gives_up = λ n lines r. record {
+      up = ap (λ x. is_up (phase_of x)) (given_up_at n lines l) ∙ r.up;
+      rest = given_up_rests n lines r.rest;
+    };
   }
 
 -- ---- the end of a session
@@ -295,18 +303,8 @@ module _ (c : Customer) (idle : (l : ℕ) → l < length c.lines → IsIdle (lin
 message_rests : (r : Route) (m : List ℕ) (lines : List CustomerLine) → IdleUnlessUp lines → IdleUnlessUp
     (goes r m lines)
 message_rests Here m lines rest = rest
-message_rests (Line k) m lines rest =
-    let x = line_at k lines in
-    set_rests k (in_state (with_message m) x) lines (others k lines rest)
-    (λ there down. message_idle m x (rest k there down))
+message_rests (Line k) m lines rest = waiting_rests k m lines rest
 message_rests Unknown m lines rest = rest
-
-given_up_rests : (n : ℕ) (lines : List CustomerLine) → IdleUnlessUp lines → IdleUnlessUp (without_sending lines n)
-given_up_rests n lines rest m there down =
-    let give : CustomerLine → CustomerLine = with_senders_by (without_file n) in
-    let it : line_at m (without_sending lines n) ≡ give (line_at m lines) = get_or-map give lines m no_customer_line in
-    subst IsIdle (sym it) (given_up_idle n (line_at m lines) (rest m (omega (arith, there, length-map lines give))
-    (ap (λ x. is_up (phase_of x)) (sym it) ∙ down)))
 
 pub idle_by_order : (order : GivenOrder) (c : Customer) → IdleUnlessUp c.lines
     → IdleUnlessUp (customer_after_order order c).lines

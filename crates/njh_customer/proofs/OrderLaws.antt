@@ -1,75 +1,34 @@
 -- A customer is in order when it is opened, and stays so whatever comes: the walk over the steps of which that is made.
 use Rattle.njh_customer.proofs.Words
-use Words.{ℕ, Bool, true, false, List, map, refl, sym, ap, subst, map-set_same, All-push, map-map, HasHeaders}
-use Words.{WholeFile, is_number, with_arrived, CustomerEntry, Receiver, LineState, after_end, after_input, Phase}
-use Words.{Config, after_record, with_idle_streams, with_raised_line, goes_up_by, replied_to, session_over, accepted_on}
-use Words.{after_frame, after_signal, Customer, CustomerLine, no_customer_line, line_at, on_line, in_state, config_of}
+use Words.{ℕ, false, refl, sym, ap, subst, All-push, map-map, HasHeaders}
+use Words.{WholeFile, is_number, with_arrived, CustomerEntry, LineState, after_end, after_input}
+use Words.{after_record}
+use Words.{after_frame, after_signal, Customer, on_line, in_state, config_of}
 use Words.{fresh_customer, idle_line, AreApart, AreBeingSent, AreSetUp, IdleUnlessUp, IsInOrder, IsWithinQuota}
 use Words.{customer_after_order}
-use Words.{StaysInOrder, customer_with_last_file, outgoing, with_arrival, sending_of_reply, IsCoherent, streams_to_hub}
+use Words.{StaysInOrder, customer_with_last_file, outgoing, with_arrival, IsCoherent}
 use Rattle.{std.proofs.Common.{◌≡◌, ◌∙◌}, njh_spool.specs.declared.State.TheVariants.Sending}
-use Rattle.{njh_stream.proofs.TiedLaws.untouched, njh_customer.proofs.ActingMoves.acts_so}
-use Rattle.njh_customer.proofs.CoherenceLaws.{fresh_coherent, order_coherent}
+use Rattle.njh_customer.proofs.CoherenceLaws.{coherent_still, fresh_coherent, order_coherent}
 use Rattle.njh_customer.proofs.FileLimits.{apart_arrived, apart_files, apart_fresh}
 use Rattle.njh_customer.proofs.FileLimits.{apart_routes, whole_distinct, within_fresh, within_routes, within_files}
 use Rattle.njh_customer.proofs.{IdleLines.{idle_by_frame, idle_by_order, idle_when_opened, idle_by_signal}}
-use Rattle.njh_customer.proofs.LineWalks.{acted_keeps, order_entry, order_keeps}
-use Rattle.njh_customer.proofs.{LineWalks.{kept, kepts, on_line_seen}, OutgoingLaws.{of_parts, on_line_senders}}
-use Rattle.njh_customer.proofs.{ReplyLaws.reply_lasting, RoutesMoves.coherent_given, SentByLines.sent_fresh}
+use Rattle.njh_customer.proofs.LineWalks.{order_entry, order_keeps}
+use Rattle.njh_customer.proofs.{OutgoingLaws.{of_parts, on_line_senders}}
+use Rattle.njh_customer.proofs.{RoutesMoves.coherent_given, SentByLines.sent_fresh}
 use Rattle.njh_customer.proofs.{SentByLines.{sent_over, sent_replied, sent_routes}, SentByRecords.arrival_carries}
-use Rattle.njh_customer.proofs.{SentByRecords.{carried, sent_order, sent_record}, SessionLaws.coherent_steps}
+use Rattle.njh_customer.proofs.SentByRecords.{carried, sent_order, sent_record}
+use Rattle.njh_customer.proofs.SessionLaws.{IsSetUpAs, coherent_steps, kept_set_ups, set_up, set_up_by, set_up_steps}
 use Rattle.njh_customer.proofs.SpoolWalks.{files_in_steps, order_so}
 use Rattle.njh_customer.proofs.StepWalks.{event_so, StaysInSteps, StaysInFrames, frame_so}
 use Rattle.njh_customer.proofs.StepWalks.{signal_so}
 
 -- ---- how the lines are set up
 
-abbrev set_up : CustomerLine → Config × ℕ
-set_up x = (x.state.config, x.streams)
-
-abbrev set_ups : List CustomerLine → List (Config × ℕ)
-set_ups lines = map set_up lines
-
-abbrev set_up_by : CustomerEntry → List (Config × ℕ)
-set_up_by entry = map (λ line. (config_of entry line, line.streams)) entry.lines
-
-abbrev kept_set_up : Config × List ℕ × Phase × ℕ → Config × ℕ
-kept_set_up k = (k.0, k.3)
-
-kept_set_ups : (xs ys : List CustomerLine) → kepts xs ≡ kepts ys → set_ups xs ≡ set_ups ys
-kept_set_ups xs ys e = sym (map-map kept_set_up kept xs) ∙ ap (map kept_set_up) e ∙ map-map kept_set_up kept ys
-
--- an entry's marks don't say how its lines are set up
-raised_set_up : (up : Bool) (l : ℕ) (entry : CustomerEntry) → set_up_by (with_raised_line up l entry) ≡ set_up_by entry
-raised_set_up true l entry = refl
-raised_set_up false l entry = refl
-
-set_still : (d c : Customer) → set_ups d.lines ≡ set_ups c.lines → set_up_by d.entry ≡ set_up_by c.entry → AreSetUp c
-    → AreSetUp d
-set_still d c lines entry so = lines ∙ so ∙ sym entry
+set_still : (d c : Customer) → IsSetUpAs c d → AreSetUp c → AreSetUp d
+set_still d c same so = same.0 ∙ so ∙ sym same.1
 
 fresh_set_up : (entry : CustomerEntry) → AreSetUp (fresh_customer entry)
 fresh_set_up entry = map-map set_up (λ line. idle_line (config_of entry line) line.streams) entry.lines
-
-set_up_steps : StaysInSteps AreSetUp
-set_up_steps = record {
-  session = record {
-    judged = λ l came c there.
-        set_still (accepted_on l came c) c (on_line_seen set_up l (in_state (after_input came)) c.lines (λ x. refl))
-        (raised_set_up (goes_up_by l came c) l c.entry);
-    answered = λ l r c there. let sent = (sending_of_reply c.entry l r c.spool (line_at l c.lines)).line in
-        set_still (replied_to l r c).after c (map-set_same set_up c.lines l sent no_customer_line
-        (ap (λ (p : Config × Phase × ℕ × List Receiver). (p.0, p.2))
-        (reply_lasting c.entry l r c.spool (line_at l c.lines)))) refl;
-    ended = λ end l c there. let lines = on_line l (in_state (after_end end)) c.lines in
-        set_still (record c { lines = lines }) c (on_line_seen set_up l (in_state (after_end end)) c.lines (λ x. refl))
-        refl;
-    over = λ l c there. set_still (session_over l c) c (on_line_seen set_up l with_idle_streams c.lines (λ x. refl))
-        refl;
-  };
-  acted = λ l i c there. let d = after_record l i c in
-      set_still d c (kept_set_ups d.lines c.lines (acted_keeps l i c)) (ap set_up_by (acts_so l i c).entry);
-}
 
 -- ---- files
 
@@ -113,7 +72,7 @@ in_order c d walk idle order =
       within = walk (λ x. IsWithinQuota x.spool) (files_in_steps IsWithinQuota within_files) order.within;
       sent = sent.1;
       idle = idle;
-      set_up = walk AreSetUp set_up_steps order.set_up;
+      set_up = set_still d c (walk (IsSetUpAs c) (set_up_steps c) (refl, refl)) order.set_up;
     }
 
 order_in_frames : StaysInFrames IsInOrder
@@ -137,7 +96,7 @@ order_in_frames = record {
     within = order_so IsWithinQuota (λ i. IsWithinQuota) within_files given c order.within;
     sent = sent_order given c (whole_distinct c.spool order.apart) order.sent;
     idle = idle_by_order given c order.idle;
-    set_up = set_still d c (kept_set_ups d.lines c.lines (order_keeps given c)) (ap set_up_by (order_entry given c))
+    set_up = set_still d c (kept_set_ups d.lines c.lines (order_keeps given c), ap set_up_by (order_entry given c))
         order.set_up;
   };
 }
@@ -149,14 +108,15 @@ put_back : (f : WholeFile) (c : Customer) → is_number f.number c.spool ≡ fal
 put_back f c free has waits within order =
     let apart = apart_arrived f c.spool free order.apart in
     record {
-      coherent = record {
-        tied = untouched (streams_to_hub c.lines) c.spool (with_arrived f c.spool) refl order.coherent.tied;
-        streamed = order.coherent.streamed;
-        headers = All-push (λ (g : WholeFile). HasHeaders g.kind g.records) c.spool.whole f order.coherent.headers has;
-        quota = order.coherent.quota;
-        limit = order.coherent.limit;
-        marks = order.coherent.marks;
-      };
+      coherent = coherent_still (customer_with_last_file f c) c (record {
+        entry = (refl, refl, refl);
+        lines = refl;
+        files = record {
+          partial = refl;
+          limits = refl;
+          headers = λ have. All-push (λ (g : WholeFile). HasHeaders g.kind g.records) c.spool.whole f have has;
+        };
+      }) order.coherent;
       apart = apart;
       within = within;
       sent = carried (outgoing c) (with_arrival f (outgoing c))

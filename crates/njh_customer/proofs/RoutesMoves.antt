@@ -5,10 +5,10 @@ use Words.{is_name, User, destination_of, WholeFile, CustomerEntry, route_of, Wa
 use Words.{Here, Line, has_lost_route, held_file, destination_unrouted, is_unknown, destination_goes_by, is_line}
 use Words.{with_marks, LeadsByMoves, nowhere, onward, RoutesMove, RoutesDo, RoutesDoSo, RoutesMoveFile, is_as_before}
 use Words.{is_held, entry_with, taken_where, routes_given, UnroutedFilesStay, customer_with_routes, Outgoing, outgoing}
-use Words.{Part, streams_to_hub, RoutesKeepCoherent}
-use Rattle.{std.proofs.Common.{◌≡◌, ◌∙◌, ◌&&◌, ◌||◌}, njh_stream.proofs.TiedLaws.untouched}
+use Words.{Part, RoutesKeepCoherent}
+use Rattle.{std.proofs.Common.{◌≡◌, ◌∙◌, ◌&&◌, ◌||◌}}
 use Rattle.njh_customer.proofs.{FileListLaws.{numbers, changed_where, from_where}, Restated.held_restated}
-use Rattle.njh_customer.proofs.Restated.{restated_harmless}
+use Rattle.njh_customer.proofs.{CoherenceLaws.{coherent_still}, Restated.{restated_harmless}}
 
 pub routes_do : RoutesDoSo
 routes_do p routes = at_check (routes_checked p.customer.entry routes) refl
@@ -68,15 +68,12 @@ held_so entry x g at = elim (from_where (has_lost_route entry) held_file x.files
 -- ---- what stays so
 
 pub coherent_given : RoutesKeepCoherent
-coherent_given routes c coherent = record {
-  tied = untouched (streams_to_hub c.lines) c.spool (customer_with_routes routes c).spool refl coherent.tied;
-  streamed = coherent.streamed;
-  headers = (restated_harmless c.spool (customer_with_routes routes c).spool
-      (held_restated (entry_with routes c.entry) c.spool)).headers coherent.headers;
-  quota = coherent.quota;
-  limit = coherent.limit;
-  marks = coherent.marks;
-}
+coherent_given routes c = coherent_still (customer_with_routes routes c) c (record {
+  entry = (refl, refl, refl);
+  lines = refl;
+  files = restated_harmless c.spool (customer_with_routes routes c).spool
+      (held_restated (entry_with routes c.entry) c.spool);
+})
 
 no_line : (named : Bool) (r : Route) (l : ℕ) → (not named || is_unknown r) ≡ true → (named && is_line l r) ≡ false
 no_line true (Line n) l e = absurd (cc e)
