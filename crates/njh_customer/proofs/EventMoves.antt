@@ -206,3 +206,11 @@ pub takes_keep_entries : TakesKeepEntries
 takes_keep_entries p l piece = take_so (SameButMarks p.customer.entry)
     (λ m x c so. does_entry m (records_of_frame x) c (after_frame m x c) (frame_does m x c)
     ∙ ap (with_marks (after_frame m x c).after.entry.up) so) (rest_on l p) p.customer l piece refl
+
+-- ---- what the laws say
+
+pub ruleset steps_do_so = (frame_does, signal_does, routes_do, orders_do)
+
+pub ruleset moves_of_events = (events_move, takes_move)
+
+pub ruleset entries_kept = (events_keep_entries, takes_keep_entries, events_keep_faults, events_keep_lines)

@@ -15,6 +15,8 @@ use Rattle.njh_line.{proofs.AnsweringLaws.{acting_is_answered, down_stays_down},
 use Rattle.njh_customer.proofs.{BlockSizes.{BlockIsFew, block_few}, GrowingLaws.{then_quietly, unchanged, reply_grows}}
 use Rattle.njh_customer.proofs.GrowingLaws.{over_grows, over_where_grows, grow_within, quietly_then, data_count}
 use Rattle.njh_customer.proofs.{GrowingLaws.all_grow, ReplyLaws.{empty_so, written_so}, RestLengths.IsShortFrame}
+use Rattle.njh_customer.proofs.GrowingLaws.{grow_then, many_go_on, orders_grow, partials_numbered, rerouted_count}
+use Rattle.njh_customer.proofs.{GrowingLaws.routes_grow, RestLengths.{events_short, opened_short, takes_short}}
 use Rattle.njh_customer.proofs.{RestLengths.step_short, StepWalks.{frame_holds, signal_holds, HoldsOfSteps}}
 use Rattle.njh_bisync.specs.declared.frame.Control.TheVariants as control
 use Rattle.njh_line.specs.declared.verdict.LineReply.TheVariants as reply
@@ -261,3 +263,19 @@ takes rest l (byte ∷ bytes) c short =
 
 pub takes_grow : TakesGrowFiles
 takes_grow p l piece short = takes (rest_on l p) l piece p.customer short
+
+-- ---- what the law says
+
+pub ruleset growing = (
+  takes_grow,
+  signals_grow,
+  routes_grow,
+  orders_grow,
+  grow_then,
+  opened_short,
+  events_short,
+  takes_short,
+  rerouted_count,
+  many_go_on,
+  partials_numbered,
+)

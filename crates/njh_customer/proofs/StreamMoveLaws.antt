@@ -252,6 +252,8 @@ idle_take entry (Records l items) x y j k n (up, move) has =
     about_none : {A : Type 0} (s : Sender) → sender_on j k y ≡ s → file_in s ≡ None → A
     about_none s now none = absurd (cc (sym has ∙ ap (λ t. file_in t) now ∙ none))
 
+pub ruleset moves_of_streams = (streams_move, idle_take)
+
 -- ---- a stream that is about a file is there
 
 pub about_line : (l k n : ℕ) (x : Outgoing) → IsAbout l k n x → l < length x.streams

@@ -21,21 +21,25 @@ ghost use Rattle.njh_customer.specs.Surviving.{EventsKeepFiles, FilesGoOnFurther
 ghost use Rattle.njh_customer.specs.Surviving.{RunsKeepFiles, SurvivorsAreNumbered, TakesKeepFiles};
 
 /// It doesn't matter how the bytes of a line are cut into pieces.
+#[tactic(auto, using(crate::proofs::PieceLaws::cuts_are_like))]
 pub fn cuts_are_like()
     ensures { CutsAreLike }
 {}
 
 /// A piece without bytes changes nothing and sends nothing.
+#[tactic(auto, using(crate::proofs::PieceLaws::no_bytes_do_nothing))]
 pub fn no_bytes_do_nothing()
     ensures { NoBytesDoNothing }
 {}
 
 /// A run over the bytes of a line may be done in steps.
+#[tactic(auto, using(crate::proofs::PieceLaws::steps_follow_bytes))]
 pub fn steps_follow_bytes()
     ensures { StepsFollowBytes }
 {}
 
 /// The frames that the first bytes of a piece send come first of those that the piece sends.
+#[tactic(auto, using(crate::proofs::PieceLaws::first_bytes_send_first))]
 pub fn first_bytes_send_first()
     ensures { FirstBytesSendFirst }
 {}
@@ -43,6 +47,7 @@ pub fn first_bytes_send_first()
 /// An event changes a customer's routes and the marks of its lines alone in what the tables say of
 /// it, so the same routes may be given to it before the event and after it; and it has as many
 /// lines. A step by bytes changes the marks alone.
+#[tactic(auto, using(crate::proofs::EventMoves::entries_kept))]
 pub fn events_keep_entries()
     ensures entry { EventsKeepEntries }
     ensures takes { TakesKeepEntries }
@@ -52,12 +57,14 @@ pub fn events_keep_entries()
 
 /// The lines that are marked as up are those that are up, when a customer is opened and whatever
 /// comes to it.
+#[tactic(auto, using(crate::proofs::MarkLaws::marks_right))]
 pub fn marks_are_right()
     ensures { MarksAreRight }
 {}
 
 /// A tick on a line whose session is up and has the turn sends its next block, where that would be
 /// sent, else ACK0. `Lines::has_next` tells which.
+#[tactic(auto, using(crate::proofs::TickLaws::ticks_send_next))]
 pub fn ticks_send_next()
     ensures { TicksSendNext }
 {}
@@ -73,6 +80,7 @@ pub fn opened_is_coherent()
 /// that a stream from the hub is about, each on one stream; a line that isn't up has no stream
 /// about a file and no answer that waits; a partial file comes on a stream; each line is set up as
 /// the entry says.
+#[tactic(auto, using(crate::proofs::OrderLaws::stays_in_order))]
 pub fn customers_stay_in_order()
     ensures { StaysInOrder }
 {}
@@ -91,6 +99,7 @@ pub fn lost_lines_leave_files()
 /// it, each record once and in order, and the end of file only after the last. Any other frame
 /// moves nothing, the last transmission that goes out again among them. New routes move no line and
 /// send nothing; an order sends nothing either.
+#[tactic(auto, using(crate::proofs::EventMoves::steps_do_so))]
 pub fn frames_do_so()
     ensures frames { FramesDoSo }
     ensures signals { SignalsDoSo }
@@ -102,6 +111,7 @@ pub fn frames_do_so()
 /// few kinds of moves and no others. New routes move no stream, and of the files those alone that
 /// are Ready or Refused and whose node has no route by them: these are Held. An order moves what
 /// the command moves that it is, and nothing if it is none.
+#[tactic(auto, using(crate::proofs::EventMoves::moves_of_events))]
 pub fn events_move_so()
     ensures events { EventsMoveSo }
     ensures takes { TakesMoveSo }
@@ -138,6 +148,7 @@ pub fn files_survive()
 /// routes and by an order none comes. What has come of a line's next frame must be of no more than
 /// the 4,096 bytes of a text, and it is, whatever came since the customer was opened. Which partial
 /// file it was says its number. A file that was given up just isn't there.
+#[tactic(auto, using(crate::proofs::StepsGrow::growing))]
 pub fn files_grow()
     ensures takes { TakesGrowFiles }
     ensures signals { SignalsGrowFiles }
@@ -157,6 +168,7 @@ pub fn files_grow()
 /// going out in a new block, by one; and if there is no record at it the end of file goes out,
 /// and that alone makes it wait for C0. By new routes none moves, and by an order those alone whose
 /// file CANCEL removes.
+#[tactic(auto, using(crate::proofs::StreamMoveLaws::moves_of_streams))]
 pub fn streams_move_so()
     ensures each { StreamsMoveSo }
     ensures taken { IdleStreamsTakeFiles }
@@ -165,6 +177,7 @@ pub fn streams_move_so()
 /// A whole file's records change by the command REROUTE of its owner by its name alone, on a line
 /// or by an order, in the eight bytes of a destination's node, and not while it is being sent. New
 /// routes change of a file at most its state, from Ready or Refused to Held.
+#[tactic(auto, using(crate::proofs::RecordsChange::records_change))]
 pub fn records_change_so()
     ensures { RecordsChangeSo }
 {}

@@ -34,6 +34,7 @@ pub fn routes_keep_coherent()
 
 /// A file whose node has no route goes by no line: none asks for it, also after its session ends
 /// and it is Ready again.
+#[tactic(auto, using(crate::proofs::RoutesMoves::unrouted_stay))]
 pub fn unrouted_files_stay()
     ensures { UnroutedFilesStay }
 {}

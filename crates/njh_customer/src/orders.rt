@@ -59,6 +59,7 @@ pub fn orders_keep_coherent()
 
 /// A command that is ordered leaves the files and the streams as the same command of that user that
 /// comes on a line.
+#[tactic(auto, using(crate::proofs::GivenOrders::do_as_commands))]
 pub fn orders_do_as_commands()
     ensures { OrdersDoAsCommands }
 {}
