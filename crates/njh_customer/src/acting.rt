@@ -94,7 +94,7 @@ impl Shared {
         if let Some(stream) = stream {
             let mut receiver = lines.line(id.number).receiver(stream);
             let step = receiver.step(arrival, stream, id, &self.tables, &mut self.spool);
-            lines.set_receiver(id.number, stream, receiver);
+            lines.line_mut(id.number).set_receiver(stream, receiver);
             lines.push_answer(id.number, step.answer);
             lines.notify(self.tables.customer(id.customer), &step.notice);
             lines.note(id.number, stream, receiver, step.notice);
@@ -157,15 +157,15 @@ impl Shared {
         match rcb {
             ControlRcb::Permission => {
                 sender.granted();
-                lines.set_sender(id.number, stream, sender);
+                lines.line_mut(id.number).set_sender(stream, sender);
             }
             ControlRcb::Refusal => {
                 sender.refused(id.customer, &mut self.spool);
-                lines.set_sender(id.number, stream, sender);
+                lines.line_mut(id.number).set_sender(stream, sender);
             }
             ControlRcb::Completion => {
                 sender.completed(id.customer, &mut self.spool);
-                lines.set_sender(id.number, stream, sender);
+                lines.line_mut(id.number).set_sender(stream, sender);
             }
             ControlRcb::Request | ControlRcb::Ready | ControlRcb::SequenceError => {}
         }

@@ -127,7 +127,7 @@ impl Shared {
         ensures ready { IsReady id self.new lines.new }
     {
         let was_up = lines.is_up(id.number);
-        let verdict = lines.accept(id.number, input);
+        let verdict = lines.line_mut(id.number).accept(input);
         let is_up = lines.is_up(id.number);
         raise(id, goes_up(was_up, is_up), &mut self.tables);
         verdict
@@ -176,7 +176,7 @@ impl Shared {
         ensures { ChangesMarksBy id self.old lines.old self.new lines.new
             (alone.session_ended end id.number) }
     {
-        lines.end(id.number, end);
+        lines.line_mut(id.number).end(end);
         self.close_session(id, lines);
     }
 

@@ -3,19 +3,16 @@
 ghost use Rattle.std.specs.Prelude.{◌≡◌, ◌<◌, ◌≤◌, ◌++◌, ◌∷◌, [], IfOk, length, map};
 ghost use Rattle.njh_block.specs.Blocks.{stream_of};
 ghost use Rattle.njh_block.specs.declared.answer.Answer.{Answer as WaitingAnswer};
-ghost use Rattle.njh_stream.specs.declared.sender.Sender.{Sender};
 ghost use Rattle.njh_nmr.specs.Nodal.{notice_record};
 ghost use Rattle.njh_table.specs.TableFile.{entry_of};
 ghost use Rattle.njh_command.specs.Commands.{without_file};
 ghost use Rattle.njh_customer.specs.Acting.{without_sending, with_senders_by};
 ghost use Rattle.njh_customer.specs.Alone.{replied_to, session_closed};
-ghost use Rattle.njh_line.specs.LineTable.{table_outcome, input_value};
 ghost use Rattle.njh_line.specs.Laws.{is_up};
-ghost use Rattle.njh_line.specs.Lines.{after_end, after_input, has_message_room};
+ghost use Rattle.njh_line.specs.Lines.{has_message_room};
 ghost use Rattle.njh_customer.specs.CustomerSteps.{ChangesFiles, ChangesFilesBy, IsReady, IsThere};
 ghost use Rattle.njh_customer.specs.CustomerSteps.{customer_of};
-ghost use Rattle.njh_customer.specs.Customer.{in_state, line_at, with_notice, on_line, receiver_at, with_receiver};
-ghost use Rattle.njh_customer.specs.Customer.{sender_at, with_sender};
+ghost use Rattle.njh_customer.specs.Customer.{line_at, with_notice, on_line};
 ghost use Rattle.njh_customer.specs.Waiting.{all_said, with_answer_on, goes, with_notice_to, with_message_to};
 ghost use Rattle.njh_customer.specs.Waiting.{with_waiting};
 ghost use Rattle.njh_customer.specs.Orders.{has_room_by};
@@ -26,11 +23,11 @@ use crate::shared::Shared;
 use njh_block::{Answer, Rcb, Stream};
 use njh_command::{Replies, Senders};
 use njh_ebcdic::{FIELD, Name};
-use njh_line::{Input, LineReply, SessionEnd, Verdict};
+use njh_line::LineReply;
 use njh_nmr::{LONGEST_MESSAGE, Nmr};
 use njh_record::Record;
 use njh_spool::FileId;
-use njh_stream::{Notice, Receiver, Sender};
+use njh_stream::{Notice, Receiver};
 use njh_table::{LineId, NamedCustomer, Route};
 use std::alloc::{AllocError, Global};
 use std::marker::Model;
@@ -51,6 +48,11 @@ impl Model for CustomerLines {
 }
 
 impl CustomerLines {
+    ghost use Rattle.std.specs.Prelude.{slice_set};
+    ghost use Rattle.std.specs.Borrow.{Lends, sem};
+    ghost use Rattle.njh_customer.specs.contracts.customer_line.CustomerLine.{the_row as line_row};
+    ghost use Rattle.njh_customer.specs.contracts.customer_lines.CustomerLines.{the_row};
+
     /// No line yet.
     pub(crate) fn new(alloc: Global) -> Self
         ensures { result ≡ [] }
@@ -83,6 +85,15 @@ impl CustomerLines {
         &self.lines[usize::from(line)]
     }
 
+    /// A line by its number, to be changed.
+    pub(crate) fn line_mut(&mut self, line: u16) -> &mut CustomerLine
+        requires { line < length self.old }
+        ensures* written { sem 𝓛 (Lends the_row line_row self.entry result (slice_set self.old line)) }
+        ensures value { result.now ≡ line_at line self.old }
+    {
+        &mut self.lines[usize::from(line)]
+    }
+
     /// Whether a line's state is up.
     pub(crate) fn is_up(&self, line: u16) -> bool
         requires { line < length self.now }
@@ -97,40 +108,6 @@ impl CustomerLines {
         ensures { result ≡ stream_of (line_at line self.now).streams rcb.byte }
     {
         rcb.stream(self.lines[usize::from(line)].streams())
-    }
-
-    /// Says what a stream to the hub is about.
-    pub(crate) fn set_receiver(&mut self, line: u16, stream: Stream, receiver: Receiver)
-        requires { line < length self.old }
-        ensures { self.new ≡ on_line line (with_receiver stream receiver) self.old }
-    {
-        self.lines[usize::from(line)].set_receiver(stream, receiver);
-    }
-
-    /// Says what a stream from the hub is about.
-    pub(crate) fn set_sender(&mut self, line: u16, stream: Stream, sender: Sender)
-        requires { line < length self.old }
-        ensures { self.new ≡ on_line line (with_sender stream sender) self.old }
-    {
-        self.lines[usize::from(line)].set_sender(stream, sender);
-    }
-
-    /// Decides by the line table what an input does.
-    pub(crate) fn accept(&mut self, line: u16, input: &Input<'_>) -> Verdict
-        requires { line < length self.old }
-        ensures verdict { result ≡ (table_outcome (line_at line self.old).state.config (input_value input.now)
-            (line_at line self.old).state.session).verdict }
-        ensures lines { self.new ≡ on_line line (in_state (after_input (input_value input.now))) self.old }
-    {
-        self.lines[usize::from(line)].accept(input)
-    }
-
-    /// A record of a block ends the session of a line so.
-    pub(crate) fn end(&mut self, line: u16, end: SessionEnd)
-        requires { line < length self.old }
-        ensures { self.new ≡ on_line line (in_state (after_end end)) self.old }
-    {
-        self.lines[usize::from(line)].end(end);
     }
 
     /// Sends what a verdict asks for.
