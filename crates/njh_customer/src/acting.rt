@@ -179,6 +179,7 @@ impl Shared {
     {
         match Nmr::read(bytes) {
             Ok(message) => {
+                lines.count_message(id.number);
                 let route = self.tables.route(id.customer, message.to());
                 self.route_message(id, &message, route, lines);
             }

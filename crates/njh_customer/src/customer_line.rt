@@ -1,6 +1,7 @@
 //! A line with its streams.
 
-ghost use Rattle.std.specs.Prelude.{◌≡◌, ◌≤◌, ◌<◌, IfOk, length, slice_set};
+ghost use Rattle.std.specs.Prelude.{◌≡◌, ◌≤◌, ◌<◌, IfOk, length, slice_get, slice_set};
+ghost use Rattle.std.specs.Option.{option_map};
 ghost use Rattle.njh_line.specs.Sessions.{IsConfig};
 ghost use Rattle.njh_line.specs.LineTable.{table_outcome, input_value};
 ghost use Rattle.njh_line.specs.Laws as laws;
@@ -24,7 +25,9 @@ use crate::sending::{
 use crate::shared::Shared;
 use njh_block::{Answer, Fcs, Stream};
 use njh_command::give_up;
-use njh_line::{Config, Input, Line, LineReply, Phase, Session, SessionEnd, Verdict};
+use njh_line::{
+    Config, Input, Line, LineReply, MessageCounts, Phase, Session, SessionEnd, Verdict,
+};
 use njh_record::Record;
 use njh_sched::{Outgoing, fill, has_next, own_fcs};
 use njh_spool::{FileId, Spool};
@@ -190,6 +193,25 @@ impl CustomerLine {
         self.line.message_count()
     }
 
+    /// A nodal message that waits to go out, by its index from the one that waits longest.
+    pub(crate) fn message(&self, index: usize) -> Option<&Record>
+        ensures { option_map (λ m. m.now.items) result ≡ slice_get self.now.state.messages index }
+    {
+        self.line.message(index)
+    }
+
+    /// How many nodal messages came, went and were dropped.
+    pub(crate) fn message_counts(&self) -> MessageCounts {
+        self.line.message_counts()
+    }
+
+    /// Counts a nodal message that came.
+    pub(crate) fn count_message(&mut self)
+        ensures { self.new ≡ self.old }
+    {
+        self.line.count_message();
+    }
+
     /// Whether there is room for a nodal message.
     pub(crate) fn has_message_room(&self) -> bool
         ensures { result ≡ lines.has_message_room self.now.state }
@@ -353,11 +375,11 @@ impl Outgoing for CustomerLine {
     }
 
     fn front_message(&self) -> Option<&Record> {
-        self.line.front_message()
+        self.line.message(0)
     }
 
     fn pop_message(&mut self) {
-        self.line.drop_message();
+        self.line.pop_message();
     }
 
     fn sender(&self, stream: Stream) -> Sender {

@@ -154,6 +154,14 @@ impl CustomerLines {
         }
     }
 
+    /// Counts a nodal message that came on a line. Nothing else changes.
+    pub(crate) fn count_message(&mut self, line: u16)
+        requires { line < length self.old }
+        ensures { self.new ≡ self.old }
+    {
+        self.lines[usize::from(line)].count_message();
+    }
+
     /// Whether the line that a route is has room for a nodal message. One that goes by no line needs
     /// none.
     pub(crate) fn has_room_by(&self, route: Route) -> bool

@@ -1,6 +1,7 @@
 //! A customer's lines, with what has come of the next frame on each.
 
-ghost use Rattle.std.specs.Prelude.{◌≡◌, ◌<◌, ◌≤◌, length, map, slice_set, IfOk};
+ghost use Rattle.std.specs.Prelude.{◌≡◌, ◌<◌, ◌≤◌, length, map, slice_get, slice_set, IfOk};
+ghost use Rattle.std.specs.Option.{option_map};
 ghost use Rattle.njh_bisync.specs.ByteSteps.{feed_outcome};
 ghost use Rattle.njh_bisync.specs.Reading.{has_begun};
 ghost use Rattle.njh_spool.specs.CustomerSpool.{empty_spool};
@@ -24,7 +25,8 @@ use crate::signal::Signal;
 use njh_bisync::Deframer;
 use njh_command::Replies;
 use njh_ebcdic::Name;
-use njh_line::{Config, Session};
+use njh_line::{Config, MessageCounts, Session};
+use njh_record::Record;
 use njh_spool::Spool;
 use njh_stream::{Notice, Receiver, Sender};
 use njh_table::{LineId, NamedCustomer, Role, Tables};
@@ -96,6 +98,23 @@ impl Lines {
         ensures { result ≡ length (line_at line self.now.lines).state.messages }
     {
         self.lines.line(line).message_count()
+    }
+
+    /// A nodal message that waits to go out on a line, by its index from the one that waits
+    /// longest, 0; none past the last.
+    pub fn message(&self, line: u16, index: usize) -> Option<&Record>
+        requires { line < length self.now.lines }
+        ensures { option_map (λ m. m.now.items) result ≡ slice_get (line_at line self.now.lines).state.messages index }
+    {
+        self.lines.line(line).message(index)
+    }
+
+    /// How many nodal messages came on a line, went on it and were dropped, for its operator. No
+    /// step depends on it.
+    pub fn message_counts(&self, line: u16) -> MessageCounts
+        requires { line < length self.now.lines }
+    {
+        self.lines.line(line).message_counts()
     }
 
     /// Whether the hub calls or answers on a line.

@@ -6,6 +6,7 @@ use crate::config::Config;
 use crate::counts::COUNTS;
 use crate::ending::SessionEnd;
 use crate::input::Input;
+use crate::message_counts::MessageCounts;
 use crate::sent::Sent;
 use crate::session::Session;
 use crate::table::accepted;
@@ -32,6 +33,8 @@ pub struct Line {
     last: Vec<u8>,
     answers: HeapCircularBuffer<Answer>,
     messages: HeapCircularBuffer<Record>,
+    /// For the line's operator. No contract sees it.
+    counts: MessageCounts,
 }
 
 impl Model for Line {
@@ -77,6 +80,7 @@ impl Line {
             last: Vec::with_capacity(alloc, LONGEST_FRAME)?,
             answers: HeapCircularBuffer::with_capacity(alloc, ANSWERS)?,
             messages: HeapCircularBuffer::with_capacity(alloc, MESSAGES)?,
+            counts: MessageCounts::none(),
         })
     }
 
@@ -174,11 +178,13 @@ impl Line {
     }
 
     /// Lets a nodal message wait behind the others, where fewer than 64 wait. Otherwise it is
-    /// dropped.
+    /// dropped, and counted.
     pub fn push_message(&mut self, message: Record)
         ensures { self.new ≡ with_message message.items self.old }
     {
-        let _has_room = self.messages.try_push_back(message).is_ok();
+        if self.messages.try_push_back(message).is_err() {
+            self.counts.dropped = self.counts.dropped.saturating_add(1);
+        }
     }
 
     /// Whether there is room for a nodal message: fewer than 64 wait.
@@ -188,11 +194,11 @@ impl Line {
         self.message_count() < MESSAGES
     }
 
-    /// The message that waits longest.
-    pub fn front_message(&self) -> Option<&Record>
-        ensures { option_map (λ m. m.now.items) result ≡ slice_get self.now.messages 0 }
+    /// A message that waits, by its index from the one that waits longest; none past the last.
+    pub fn message(&self, index: usize) -> Option<&Record>
+        ensures { option_map (λ m. m.now.items) result ≡ slice_get self.now.messages index }
     {
-        self.messages.front()
+        self.messages.get(index)
     }
 
     /// How many nodal messages wait.
@@ -202,14 +208,27 @@ impl Line {
         self.messages.len()
     }
 
-    /// Drops the message that waits longest, where there is one.
-    pub fn drop_message(&mut self)
+    /// Takes the message that waits longest away, where there is one: it went to the peer.
+    pub fn pop_message(&mut self)
         ensures { self.new ≡ without_message self.old }
     {
         let waiting = self.messages.len();
         if waiting > 0 {
             self.messages.truncate_front(waiting - 1);
+            self.counts.sent = self.counts.sent.saturating_add(1);
         }
+    }
+
+    /// Counts a nodal message that came from the peer. Nothing else changes.
+    pub fn count_message(&mut self)
+        ensures { self.new ≡ self.old }
+    {
+        self.counts.came = self.counts.came.saturating_add(1);
+    }
+
+    /// How many nodal messages came, went and were dropped, for the line's operator.
+    pub fn message_counts(&self) -> MessageCounts {
+        self.counts
     }
 }
 

@@ -1,6 +1,6 @@
 use Rattle.std.proofs.Common.{◌≡◌, ◌-◌, length, drop, refl, ap, ◌∙◌, arith}
 use Rattle.std.proofs.lemmas.List.{drop-map}
-use Rattle.njh_line.proofs.line.Line.drop_message.Goals as goal
+use Rattle.njh_line.proofs.line.Line.pop_message.Goals as goal
 
 pub returns-then-waiting-gt0 : goal.returns-then-waiting-gt0
 returns-then-waiting-gt0 c =
