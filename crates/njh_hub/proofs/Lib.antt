@@ -13,3 +13,4 @@ pub mod StopLaws
 pub mod SetRoutesLaws
 pub mod GivenOrderLaws
 pub mod ComingLaws
+pub mod WaitingLaws

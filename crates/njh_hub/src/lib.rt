@@ -26,6 +26,7 @@ pub use laws::{
     taken_messages_wait, two_lists_are_like,
 };
 pub use njh_customer::{GivenOrder, LastCommand, OrderText, Signal, cuts_are_like};
+pub use njh_line::MessageCounts;
 pub use njh_spool::RestoreFault;
 pub use session_view::{QUIET_TIME, SessionView};
 pub use sink::{Sink, SinkFault};

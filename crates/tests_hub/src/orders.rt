@@ -1,13 +1,14 @@
 //! Orders that a hub refuses, and some that it takes, by the call.
 
 use crate::looks::characters;
-use crate::steps::{CONTACT, SIGN_ON};
-use crate::trial::{A1, bytes_of, of_hub};
+use crate::steps::{CONTACT, LIST, SIGN_ON};
+use crate::trial::{A1, A2, NOWHERE, bytes_of, of_hub};
 use njh_command::Replies;
 use njh_ebcdic::Name;
 use njh_header::User;
-use njh_hub::{GivenOrder, Hub, HubFault, OrderText};
+use njh_hub::{GivenOrder, Hub, HubFault, MessageCounts, OrderText};
 use njh_replay::{OrderKind, order_text};
+use njh_table::LineId;
 use std::alloc::Global;
 use std::io;
 
@@ -93,20 +94,62 @@ fn give_times<R: Print>(rt: &R, hub: &mut Hub, order: &GivenOrder, times: u64) -
     println!(rt; "queue: {taken} of {times} taken")
 }
 
+/// Bytes come from LYON.
+fn take(alloc: Global, hub: &mut Hub, digits: &str) -> io::Result<()> {
+    let piece = bytes_of(alloc, digits)?;
+    let mut out = Vec::new(alloc);
+    match hub.take(A1, &piece, &mut out) {
+        Ok(_) => Ok(()),
+        Err(fault) => Err(of_hub(fault)),
+    }
+}
+
 /// LYON comes, and is sent the first block of the messages that wait.
 fn send_block(alloc: Global, hub: &mut Hub) -> io::Result<()> {
     for digits in [CONTACT, SIGN_ON, "1070"] {
-        let piece = bytes_of(alloc, digits)?;
-        let mut out = Vec::new(alloc);
-        if let Err(fault) = hub.take(A1, &piece, &mut out) {
-            return Err(of_hub(fault));
-        }
+        take(alloc, hub, digits)?;
     }
     Ok(())
 }
 
+/// Says which message waits on a line at an index.
+fn show_message<R: Print + AllocGlobal>(
+    rt: &R,
+    hub: &Hub,
+    id: LineId,
+    index: usize,
+) -> io::Result<()> {
+    match hub.message(id, index) {
+        Some(message) => println!(rt; "waits: {}", characters(rt.alloc(), message)?)?,
+        None => println!(rt; "waits: none")?,
+    }
+    Ok(())
+}
+
+/// Says how many messages came and went on a line.
+fn show_counts<R: Print>(rt: &R, hub: &Hub, id: LineId) -> io::Result<()> {
+    let MessageCounts {
+        came,
+        sent,
+        dropped,
+    } = hub.message_counts(id);
+    println!(rt; "counts: {came} came, {sent} sent, {dropped} dropped")
+}
+
+/// LYON's user commands LIST while 64 messages wait for LYON: the reply is dropped, and a block of
+/// the messages goes.
+fn drop_reply<R: Print + AllocGlobal>(rt: &R, hub: &mut Hub) -> io::Result<()> {
+    take(rt.alloc(), hub, LIST)?;
+    for id in [A1, A2, NOWHERE] {
+        show_counts(rt, hub, id)?;
+        show_message(rt, hub, id, 0)?;
+    }
+    show_message(rt, hub, A1, 35)
+}
+
 /// 63 messages for LYON and one more wait, and all that follow are refused. A command needs no
-/// room, nor does a message that goes by the other line. Once some went out there is room.
+/// room, nor does a message that goes by the other line. Once some went out there is room. What the
+/// hub itself says is dropped while there is none.
 pub(crate) fn fill<R: Print + AllocGlobal>(rt: &R, hub: &mut Hub) -> io::Result<()> {
     let anna = user_at("LYON", "ANNA")?;
     let paul = user_at("METZ", "PAUL")?;
@@ -122,5 +165,6 @@ pub(crate) fn fill<R: Print + AllocGlobal>(rt: &R, hub: &mut Hub) -> io::Result<
     send_block(rt.alloc(), hub)?;
     tell(rt, hub, &message)?;
     give_times(rt, hub, &message, 64)?;
-    tell(rt, hub, &message)
+    tell(rt, hub, &message)?;
+    drop_reply(rt, hub)
 }

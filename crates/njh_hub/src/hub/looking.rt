@@ -1,6 +1,6 @@
 //! What is seen of a hub while it runs: of a line and of a file, without a copy of any record.
 
-ghost use Rattle.std.specs.Prelude.{◌≡◌, ◌<◌, ◌↔◌, length, IsTrue, IfOk, IsOk, OnOk, OnErr, OnSome, Err};
+ghost use Rattle.std.specs.Prelude.{◌≡◌, ◌<◌, ◌↔◌, length, slice_get, IsTrue, IfOk, IsOk, OnOk, OnErr, OnSome, Err};
 ghost use Rattle.std.specs.List.{AllByRecursion};
 ghost use Rattle.std.specs.Option.{option_map};
 ghost use Rattle.njh_command.specs.Files.{file_at};
@@ -17,7 +17,8 @@ use crate::hub::Hub;
 use crate::session_view::SessionView;
 use njh_customer::{LastCommand, Lines};
 use njh_ebcdic::Name;
-use njh_line::{Phase, SessionEnd};
+use njh_line::{MessageCounts, Phase, SessionEnd};
+use njh_record::Record;
 use njh_spool::FileId;
 use njh_stream::{Notice, Receiver, Sender};
 use njh_table::{LineId, Route};
@@ -107,6 +108,30 @@ impl Hub {
     {
         let lines = self.lines_of(id)?;
         Ok(lines.message_count(id.number))
+    }
+
+    /// A nodal message that waits to go out on a line, by its index from the one that waits
+    /// longest, 0; none past the last, and none where the hub has no such line.
+    #[tactic(auto, using(crate::proofs::WaitingLaws::nothing_waits))]
+    pub fn message(&self, id: LineId, index: usize) -> Option<&Record>
+        ensures { option_map (λ m. m.now.items) result ≡ slice_get (hub_line id self.now).state.messages index }
+    {
+        match self.lines_of(id) {
+            Ok(lines) => lines.message(id.number, index),
+            Err(_) => None,
+        }
+    }
+
+    /// How many nodal messages came on a line, went on it and were dropped since the hub was
+    /// opened, for its operator; none where the hub has no such line. No step depends on it.
+    ///
+    /// A message keeps its number while it waits: as many as went before it, and those that wait
+    /// before it.
+    pub fn message_counts(&self, id: LineId) -> MessageCounts {
+        match self.lines_of(id) {
+            Ok(lines) => lines.message_counts(id.number),
+            Err(_) => MessageCounts::none(),
+        }
     }
 
     /// What each of a line's streams to the hub is about: SYSIN 1 to 4, SYSOUT 1 to 4; a file that
