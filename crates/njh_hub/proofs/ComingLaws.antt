@@ -1,5 +1,5 @@
 -- The files that come on a line's streams to the hub are partial.
-use Rattle.std.proofs.Common.{ℕ, zero, suc, List, [], ◌∷◌, map, refl, subst, arith}
+use Rattle.std.proofs.Common.{ℕ, zero, suc, List, [], ◌∷◌, refl, subst, arith}
 use Rattle.std.specs.Prelude.{◌≡◌, slice_index_or}
 use Rattle.std.specs.List.{AllByRecursion}
 use Rattle.njh_record.specs.declared.Kind.{Kind}

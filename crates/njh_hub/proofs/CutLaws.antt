@@ -13,7 +13,7 @@ use Rattle.njh_customer.specs.Part.{rest_on, part_after_signal}
 use Rattle.njh_customer.specs.Runs.{OwnBytes, Run, event_run}
 use Rattle.njh_customer.proofs.PieceLaws.{cuts_are_like}
 use Rattle.njh_hub.specs.declared.event.Event.{Event}
-use Rattle.njh_hub.specs.declared.event.Event.TheVariants.{Bytes, Lost}
+use Rattle.njh_hub.specs.declared.event.Event.TheVariants.{Bytes}
 use Rattle.njh_hub.specs.OwnEvents.{event_by}
 use Rattle.njh_hub.specs.WholeHub.{Part, no_part, part, HubRun, sent_by, hub_run}
 use Rattle.njh_hub.specs.Cuts.{run_until, cut_to, SendsAt}

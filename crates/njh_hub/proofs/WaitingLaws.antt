@@ -1,5 +1,5 @@
 -- Nothing waits on a line that the hub doesn't have.
-use Rattle.std.proofs.Common.{◌≡◌, ◌<◌, ℕ, List, length, None, slice_get, ap, inl, inr}
+use Rattle.std.proofs.Common.{◌≡◌, ℕ, List, length, None, slice_get, ap, inl, inr}
 use Rattle.std.proofs.lemmas.Bool.{cases_lt}
 use Rattle.std.proofs.lemmas.List.{get_or_past}
 use Rattle.njh_table.specs.declared.LineId.{LineId}

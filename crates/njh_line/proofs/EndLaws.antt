@@ -1,5 +1,5 @@
 -- Which inputs end a session, and why it ends.
-use Rattle.std.proofs.Common.{◌≡◌, ℕ, ◌+◌, Bool, true, false, None, Result, Ok, Err, cond, ◌==◌, ◌&&◌, refl}
+use Rattle.std.proofs.Common.{ℕ, ◌+◌, Bool, true, false, None, Result, Ok, Err, cond, ◌==◌, ◌&&◌, refl}
 use Rattle.njh_bisync.specs.declared.frame.Control.TheVariants as control
 use Rattle.njh_header.specs.SignOns.{SignOn}
 use Rattle.njh_line.specs.declared.Phase.{Phase}
@@ -19,7 +19,7 @@ use Rattle.njh_line.specs.declared.verdict.LineReply.TheVariants.{Again, Control
 use Rattle.njh_line.specs.Counts.{after_acting, count_verdict}
 use Rattle.njh_line.specs.Ends.{EndsAreTold, TellsEnd, count_end, where_so}
 use Rattle.njh_line.specs.Laws.{is_up}
-use Rattle.njh_line.specs.LineTable.{Input, Enquiry, Ack0, Nak, Eot, Lost, Tick, Garbled, Spoiled, Bad, Block}
+use Rattle.njh_line.specs.LineTable.{Enquiry, Ack0, Nak, Eot, Lost, Tick, Garbled, Spoiled, Bad, Block}
 use Rattle.njh_line.specs.LineTable.{table_outcome, call, cell, contact, end, end_and_contact, end_with, hang_up, none}
 use Rattle.njh_line.specs.LineTable.{signed_on, try_again, try_with, with_reply}
 use Rattle.njh_line.specs.Openings.{fitting}

@@ -1,7 +1,6 @@
-use Rattle.std.proofs.Common.{◌≡◌, ◌<◌, List, length, ap, subst, sym, ◌∙◌, arith}
+use Rattle.std.proofs.Common.{List, subst, sym, arith}
 use Rattle.std.specs.List.{AllByRecursion}
 use Rattle.njh_customer.specs.Customer.{line_at}
-use Rattle.njh_customer.specs.code.Coherence.{IsCoherent}
 use Rattle.njh_hub.specs.Parts.{part_held}
 use Rattle.njh_hub.specs.Views.{IsPartialOn, hub_line}
 use Rattle.njh_hub.specs.WholeHub.{HasLine, Part, part}
