@@ -240,6 +240,20 @@ impl<C: Connection + Drop> LineWire<C> {
         self.silence.last_bytes
     }
 
+    /// How many bytes its reads answered, on all its connections.
+    pub fn came(&self) -> u64
+        ensures { result ≡ self.now.came }
+    {
+        self.counts.came
+    }
+
+    /// How many bytes of frames it took to send, on all its connections.
+    pub fn went(&self) -> u64
+        ensures { result ≡ self.now.went }
+    {
+        self.counts.went
+    }
+
     /// For how many milliseconds nothing came on its connection.
     pub fn silent_for(&self) -> u64
         ensures { result ≡ self.now.clock - self.now.heard }
