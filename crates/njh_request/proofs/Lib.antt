@@ -1,1 +1,4 @@
+pub mod MemberLaws
 pub mod Parting
+pub mod QuoteLaws
+pub mod ReadLaws

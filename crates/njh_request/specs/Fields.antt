@@ -1,12 +1,12 @@
 -- Texts and users' fields, as they stand in a request.
-use Rattle.std.specs.Prelude.{ℕ, ◌-◌, ◌&&◌, Bool, List, length, take, drop, codes, cond, nat_le, bytes_eq, is_some}
+use Rattle.std.specs.Prelude.{ℕ, ◌-◌, ◌&&◌, Bool, List, length, take, drop, codes, cond, nat_le, not, bytes_eq, is_some}
 use Rattle.std.specs.Prelude.{Option, Some, None, option_and_then}
 use Rattle.std.specs.List.{list_all}
 use Rattle.std.specs.Result.{result_ok}
 use Rattle.std.specs.Str.{chars}
 use Rattle.hex.specs.Hex.{decode_of}
 use Rattle.njh_ebcdic.specs.Characters.{byte_of_character, bytes_or_blanks}
-use Rattle.njh_ebcdic.specs.Names.{padded_field}
+use Rattle.njh_ebcdic.specs.Names.{is_empty, padded_field}
 
 abbrev pub has_byte : ℕ → Bool
 has_byte character = is_some (byte_of_character character)
@@ -14,9 +14,10 @@ has_byte character = is_some (byte_of_character character)
 abbrev pub have_bytes : ℕ → List ℕ → Bool
 have_bytes most characters = nat_le (length characters) most && list_all has_byte characters
 
--- a text of at most 148 characters that each have a byte
+-- a text of 1 to 148 characters that each have a byte
 abbrev pub text_of_characters : List ℕ → Option (List ℕ)
-text_of_characters text = cond (have_bytes 148 (chars text)) (Some (bytes_or_blanks (chars text))) None
+text_of_characters text =
+    cond (not (is_empty text) && have_bytes 148 (chars text)) (Some (bytes_or_blanks (chars text))) None
 
 -- what stands between X' and '
 abbrev pub is_quoted : List ℕ → Bool

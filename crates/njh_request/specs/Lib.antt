@@ -1,6 +1,13 @@
 pub mod Fields
+pub mod Quotes
+pub mod OrderNames
+pub mod FilePaths
+pub mod Members
 pub mod Bodies
 pub mod Paths
+pub mod Terms
 pub mod Named
 pub mod Refusals
+pub mod Orders
 pub mod Requests
+pub mod Same

@@ -1,101 +1,170 @@
 //! What a request's body holds.
 
-ghost use Rattle.std.specs.Prelude.{◌≡◌, option_map, IfOk};
-ghost use Rattle.serde_json.specs.View.{view};
-ghost use Rattle.njh_request.specs.Bodies.{data_in, object_of_text, object_where, owner_in, string_in, text_in};
-ghost use Rattle.njh_request.specs.Bodies.{user_member, waits_in};
+ghost use Rattle.std.specs.Prelude.{◌≡◌, [], IfOk};
+ghost use Rattle.std.specs.Result.{result_map_both};
+ghost use Rattle.json.specs.Strict.{keys};
+ghost use Rattle.json.specs.Value.{members_view, value_view};
+ghost use Rattle.njh_request.specs.Bodies.{owner_in, path_in, state_in, text_in, waits_in, whom_in};
+ghost use Rattle.njh_request.specs.Members.{key_fault, odd_from, odd_in, stands_in};
 
-use crate::text::Text;
-use crate::users::user_in;
+use crate::file_path::FilePath;
+use crate::member::{Form, Member};
+use crate::quote::Quote;
+use crate::refusal::RequestRefusal;
+use crate::text::text_of;
+use crate::users::user_of;
+use json::Value;
+use njh_customer::OrderText;
 use njh_header::User;
-use serde_json::Value;
 use std::alloc::{AllocError, Global};
-use std::str;
 
-/// The object of JSON that a body is, if it is one. Out of memory is the only refusal.
-pub(crate) fn value_in(alloc: Global, body: &[u8]) -> Result<Option<Value>, AllocError>
-    ensures { IfOk result (λ value. option_map view value ≡ data_in body.now) }
+/// What is wrong with what is to be an object of this form: it is none, which is told so; or its
+/// first member that isn't one of the form's, or that stood before.
+pub(crate) fn odd_in(
+    value: &Value<'_>,
+    form: Form,
+    otherwise: RequestRefusal,
+) -> Option<RequestRefusal>
+    ensures { result ≡ odd_in otherwise form (value_view value.now) }
 {
-    match str::from_utf8(body) {
-        Ok(text) => value_of_text(alloc, text),
-        Err(_) => Ok(None),
+    match value {
+        Value::Object(members) => odd_key(members, form),
+        _ => Some(otherwise),
     }
 }
 
-/// The object of JSON that a text is, if it is one.
-fn value_of_text(alloc: Global, text: &str) -> Result<Option<Value>, AllocError>
-    ensures { IfOk result (λ value. option_map view value ≡ object_of_text text.now) }
+/// What is wrong with the first key that has a fault.
+fn odd_key(members: &[(&str, Value<'_>)], form: Form) -> Option<RequestRefusal>
+    ensures { result ≡ odd_from form [] (keys (members_view members.now)) }
 {
-    match Value::from_str(alloc, text) {
-        Ok(value) => Ok(object_where(value)),
-        Err(error) => {
-            if error.is_memory() {
-                Err(AllocError)
-            } else {
-                Ok(None)
-            }
+    for (place, member) in members.iter().enumerate() {
+        let (before, _) = members.split_at(place);
+        match key_fault(before, form, member.0) {
+            Some(why) => return Some(why),
+            None => {}
         }
     }
+    None
 }
 
-/// JSON that is an object.
-fn object_where(value: Value) -> Option<Value>
-    ensures { option_map view result ≡ object_where (view value) }
+/// What is wrong with a key behind other members.
+fn key_fault(before: &[(&str, Value<'_>)], form: Form, key: &str) -> Option<RequestRefusal>
+    ensures { result ≡ key_fault form (keys (members_view before.now)) key.now }
 {
-    if value.is_object() { Some(value) } else { None }
-}
-
-/// The text that a member is, as it stands.
-pub(crate) fn string_in<'a>(value: &'a Value, key: &str) -> Option<&'a str>
-    ensures { option_map (λ text. text.now) result ≡ string_in key.now (view value.now) }
-{
-    value.get(key).and_then(Value::as_str)
-}
-
-/// The text that a member is, in EBCDIC. Out of memory is the only refusal.
-pub(crate) fn text_in(alloc: Global, value: &Value, key: &str) -> Result<Option<Text>, AllocError>
-    ensures { IfOk result (λ text. text ≡ text_in key.now (view value.now)) }
-{
-    match string_in(value, key) {
-        Some(text) => Text::of(alloc, text),
-        None => Ok(None),
+    match Member::of(key) {
+        Some(member) if form.takes(member) => {
+            if stands_in(before, key) {
+                Some(RequestRefusal::RepeatedMember(member))
+            } else {
+                None
+            }
+        }
+        _ => Some(RequestRefusal::UnknownMember(Quote::of(key))),
     }
 }
 
-/// The user in whose name something is ordered, if one is named; none where what is named is no
-/// user. Out of memory is the only refusal.
-pub(crate) fn owner_in(alloc: Global, value: &Value) -> Result<Option<Option<User>>, AllocError>
-    ensures { IfOk result (λ owner. owner ≡ owner_in (view value.now)) }
+/// Whether a key is one of these members'.
+fn stands_in(before: &[(&str, Value<'_>)], key: &str) -> bool
+    ensures { result ≡ stands_in key.now (keys (members_view before.now)) }
 {
-    match value.get("owner") {
-        None => Ok(Some(None)),
-        Some(owner) => match user_in(alloc, owner)? {
-            Some(user) => Ok(Some(Some(user))),
-            None => Ok(None),
+    for member in before {
+        if member.0 == key {
+            return true;
+        }
+    }
+    false
+}
+
+/// The text that a member has to be, in EBCDIC. Out of memory is the only failure.
+pub(crate) fn text_in(
+    alloc: Global,
+    value: &Value<'_>,
+    member: Member,
+) -> Result<Result<OrderText, RequestRefusal>, AllocError>
+    ensures { IfOk result (λ text. text ≡ text_in member (value_view value.now)) }
+{
+    let Some(found) = value.get(member.name()) else {
+        return Ok(Err(RequestRefusal::MissingMember(member)));
+    };
+    let Some(text) = found.as_str() else {
+        return Ok(Err(RequestRefusal::BadMember(member)));
+    };
+    match text_of(alloc, text)? {
+        Some(text) => Ok(Ok(text)),
+        None => Ok(Err(RequestRefusal::BadMember(member))),
+    }
+}
+
+/// The file that is compared. Out of memory is the only failure.
+pub(crate) fn path_in(
+    alloc: Global,
+    value: &Value<'_>,
+) -> Result<Result<FilePath, RequestRefusal>, AllocError>
+    ensures { IfOk result (λ path. path ≡ path_in (value_view value.now)) }
+{
+    let Some(found) = value.get(Member::File.name()) else {
+        return Ok(Err(RequestRefusal::MissingMember(Member::File)));
+    };
+    let Some(text) = found.as_str() else {
+        return Ok(Err(RequestRefusal::BadMember(Member::File)));
+    };
+    match FilePath::of(alloc, text)? {
+        Some(path) => Ok(Ok(path)),
+        None => Ok(Err(RequestRefusal::BadMember(Member::File))),
+    }
+}
+
+/// The user in whose name something is ordered, if one is named. Out of memory is the only failure.
+pub(crate) fn owner_in(
+    alloc: Global,
+    value: &Value<'_>,
+) -> Result<Result<Option<User>, RequestRefusal>, AllocError>
+    ensures { IfOk result (λ owner. owner ≡ owner_in (value_view value.now)) }
+{
+    match value.get(Member::Owner.name()) {
+        None => Ok(Ok(None)),
+        Some(owner) => match user_of(alloc, owner, Member::Owner)? {
+            Ok(user) => Ok(Ok(Some(user))),
+            Err(why) => Ok(Err(why)),
         },
     }
 }
 
-/// The user that a member is. Out of memory is the only refusal.
-pub(crate) fn user_member(
+/// The user who is told something. Out of memory is the only failure.
+pub(crate) fn whom_in(
     alloc: Global,
-    value: &Value,
-    key: &str,
-) -> Result<Option<User>, AllocError>
-    ensures { IfOk result (λ user. user ≡ user_member key.now (view value.now)) }
+    value: &Value<'_>,
+) -> Result<Result<User, RequestRefusal>, AllocError>
+    ensures { IfOk result (λ user. user ≡ whom_in (value_view value.now)) }
 {
-    match value.get(key) {
-        Some(user) => user_in(alloc, user),
-        None => Ok(None),
+    match value.get(Member::To.name()) {
+        Some(user) => user_of(alloc, user, Member::To),
+        None => Ok(Err(RequestRefusal::MissingMember(Member::To))),
     }
 }
 
-/// Whether something is to wait until nothing is on the streams; none where that is no yes or no.
-pub(crate) fn waits_in(value: &Value) -> Option<bool>
-    ensures { result ≡ waits_in (view value.now) }
+/// Whether something is to wait until nothing is on the streams.
+pub(crate) fn waits_in(value: &Value<'_>) -> Result<bool, RequestRefusal>
+    ensures { result ≡ waits_in (value_view value.now) }
 {
-    match value.get("when_idle") {
-        None => Some(false),
-        Some(flag) => flag.as_bool(),
+    match value.get(Member::WhenIdle.name()) {
+        None => Ok(false),
+        Some(flag) => match flag.as_bool() {
+            Some(waits) => Ok(waits),
+            None => Err(RequestRefusal::BadMember(Member::WhenIdle)),
+        },
+    }
+}
+
+/// How a line is to be, as it stands.
+pub(crate) fn state_in<'a>(value: &Value<'a>) -> Result<&'a str, RequestRefusal>
+    ensures { result_map_both (λ text. text.now) (λ why. why) result ≡ state_in (value_view value.now) }
+{
+    match value.get(Member::State.name()) {
+        None => Err(RequestRefusal::MissingMember(Member::State)),
+        Some(state) => match state.as_str() {
+            Some(text) => Ok(text),
+            None => Err(RequestRefusal::BadMember(Member::State)),
+        },
     }
 }

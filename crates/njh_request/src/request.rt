@@ -1,24 +1,24 @@
 //! What a request asks for.
 
-ghost use Rattle.std.specs.Prelude.{◌≡◌, codes, option_map, IfOk};
-ghost use Rattle.serde_json.specs.View.{view};
-ghost use Rattle.njh_table.specs.TableFile.{HasLine, TableFile};
-ghost use Rattle.njh_request.specs.Bodies.{data_in};
-ghost use Rattle.njh_request.specs.Named.{HasCustomer, IsReadOf, IsResourceOf};
-ghost use Rattle.njh_request.specs.Requests.{asked, body_asks, by_method, customers_from, files_from, line_by};
-ghost use Rattle.njh_request.specs.Requests.{line_in, lines_from};
-ghost use Rattle.njh_request.specs.Requests.{message_by, message_in, moment_by, object_asks, order_by, order_in};
-ghost use Rattle.njh_request.specs.Requests.{request_of, stop_by, wish_of_text};
+ghost use Rattle.std.specs.Prelude.{◌≡◌, option_map, IfOk, Ok};
+ghost use Rattle.json.specs.Json.{document};
+ghost use Rattle.json.specs.Value.{value_view};
+ghost use Rattle.njh_request.specs.Named.{IsReadOf};
+ghost use Rattle.njh_request.specs.Requests.{asked, asked_where, body_asks, by_method, customers_from, files_from};
+ghost use Rattle.njh_request.specs.Requests.{lines_from, object_asks, on_terms, read_where, request_of, without_place};
+ghost use Rattle.njh_request.specs.declared.methods.Methods.TheVariants as methods;
 
-use crate::bodies::{owner_in, string_in, text_in, user_member, value_in, waits_in};
+use crate::methods::Methods;
 use crate::numbers::place_in;
+use crate::order::{Order, ordered_of};
+use crate::order_key::OrderKey;
 use crate::refusal::RequestRefusal;
 use crate::resource::Resource;
-use crate::text::Text;
-use njh_header::User;
-use njh_table::{LineId, Tables};
-use serde_json::Value;
+use crate::terms::{Terms, terms_in};
+use json::{Scratch, Value};
+use njh_table::Tables;
 use std::alloc::{AllocError, Global};
+use std::str;
 
 /// When something ends.
 #[derive(Clone, Copy, Debug, PartialEq, Eq)]
@@ -60,17 +60,10 @@ pub enum Request {
     Lines(u16, u64),
     /// A customer's files, from a place on.
     Files(u16, u64),
-    /// That a command is carried out for a customer, in this user's name, or in that of the owner of
-    /// the files that it names.
-    Order(u16, Option<User>, Text),
-    /// That a user of a customer's is told this.
-    Message(u16, User, Text),
-    /// What came of the order of this number.
-    Outcome(u64),
-    /// That a line is so.
-    Line(LineId, LineWish),
-    /// That the service ends.
-    Stop(EndMoment),
+    /// What came of the order of this number or name.
+    Outcome(OrderKey),
+    /// That this is done, on these terms.
+    Order(Terms, Order),
 }
 
 impl Request {
@@ -88,10 +81,25 @@ impl Request {
             ≡ request_of tables.now method.now path.now (option_map (λ q. q.now) query.entry) body.now) }
         ensures there { IfOk result (IsReadOf tables.now) }
     {
-        match Resource::at(alloc, tables, path)? {
-            Some(resource) => asked(alloc, resource, method, query, body),
-            None => Ok(Err(RequestRefusal::NoResource)),
-        }
+        let named = Resource::at(alloc, tables, path)?;
+        asked_where(alloc, named, method, query, body)
+    }
+}
+
+/// What is asked of what a path names, if it names something that is there.
+fn asked_where(
+    alloc: Global,
+    named: Result<Resource, RequestRefusal>,
+    method: &str,
+    query: Option<&str>,
+    body: &[u8],
+) -> Result<Result<Request, RequestRefusal>, AllocError>
+    ensures { IfOk result (λ read. read
+        ≡ asked_where named method.now (option_map (λ q. q.now) query.entry) body.now) }
+{
+    match named {
+        Ok(resource) => asked(alloc, resource, method, query, body),
+        Err(why) => Ok(Err(why)),
     }
 }
 
@@ -103,31 +111,42 @@ fn asked(
     query: Option<&str>,
     body: &[u8],
 ) -> Result<Result<Request, RequestRefusal>, AllocError>
-    ensures read { IfOk result (λ read. read
+    ensures { IfOk result (λ read. read
         ≡ asked resource method.now (option_map (λ q. q.now) query.entry) body.now) }
-    ensures there { (tables : TableFile) → IsResourceOf tables resource → IfOk result (IsReadOf tables) }
 {
     match resource {
-        Resource::Status => Ok(by_get(method, Ok(Request::Status))),
+        Resource::Status => Ok(by_get(method, without_place(query, Request::Status))),
         Resource::Customers => Ok(by_get(method, customers_from(place_in(query)))),
         Resource::Lines(customer) => Ok(by_get(method, lines_from(customer, place_in(query)))),
         Resource::Files(customer) => Ok(by_get(method, files_from(customer, place_in(query)))),
-        Resource::Outcome(order) => Ok(by_get(method, Ok(Request::Outcome(order)))),
-        Resource::Orders(_) | Resource::Messages(_) | Resource::Stop => by_body(
-            alloc, resource, method, "POST", body,
-        ),
-        Resource::Line(_) => by_body(alloc, resource, method, "PUT", body),
+        Resource::Outcome(key) => Ok(by_get(method, without_place(query, Request::Outcome(key)))),
+        Resource::Orders(_)
+        | Resource::Messages(_)
+        | Resource::Stop
+        | Resource::Reload
+        | Resource::Diff => by_body(alloc, resource, Methods::Post, method, query, body),
+        Resource::Line(_) => by_body(alloc, resource, Methods::Put, method, query, body),
     }
 }
 
-/// What is read, if it is asked by GET.
+/// What is read, if it is asked by GET or HEAD.
 fn by_get(method: &str, read: Result<Request, RequestRefusal>) -> Result<Request, RequestRefusal>
-    ensures { result ≡ by_method (codes "GET") method.now read }
+    ensures { result ≡ by_method methods.Get method.now read }
 {
-    if method == "GET" {
+    if Methods::Get.are(method) {
         read
     } else {
-        Err(RequestRefusal::BadMethod)
+        Err(RequestRefusal::BadMethod(Methods::Get))
+    }
+}
+
+/// What is asked, if nothing stands behind the path.
+fn without_place(query: Option<&str>, request: Request) -> Result<Request, RequestRefusal>
+    ensures { result ≡ without_place (option_map (λ q. q.now) query.entry) (Ok request) }
+{
+    match query {
+        None => Ok(request),
+        Some(_) => Err(RequestRefusal::NoPlace),
     }
 }
 
@@ -158,24 +177,54 @@ fn files_from(customer: u16, from: Option<u64>) -> Result<Request, RequestRefusa
     }
 }
 
-/// What a body asks of a resource, if it comes by this method.
+/// What a body asks of a resource, if it comes by these methods, and nothing stands behind the path.
 fn by_body(
     alloc: Global,
     resource: Resource,
+    wanted: Methods,
     method: &str,
-    wanted: &str,
+    query: Option<&str>,
     body: &[u8],
 ) -> Result<Result<Request, RequestRefusal>, AllocError>
-    ensures read { IfOk result (λ read. read
-        ≡ by_method wanted.now method.now (body_asks resource (data_in body.now))) }
-    ensures there { (tables : TableFile) → IsResourceOf tables resource → IfOk result (IsReadOf tables) }
+    ensures { IfOk result (λ read. read ≡ by_method wanted method.now
+        (without_place (option_map (λ q. q.now) query.entry) (body_asks (object_asks resource) body.now))) }
 {
-    if method != wanted {
-        return Ok(Err(RequestRefusal::BadMethod));
+    if !wanted.are(method) {
+        return Ok(Err(RequestRefusal::BadMethod(wanted)));
     }
-    match value_in(alloc, body)? {
-        Some(value) => object_asks(alloc, resource, &value),
-        None => Ok(Err(RequestRefusal::NotJson)),
+    match query {
+        None => body_asks(alloc, resource, body),
+        Some(_) => Ok(Err(RequestRefusal::NoPlace)),
+    }
+}
+
+/// What a body asks of a resource.
+fn body_asks(
+    alloc: Global,
+    resource: Resource,
+    body: &[u8],
+) -> Result<Result<Request, RequestRefusal>, AllocError>
+    ensures { IfOk result (λ read. read ≡ body_asks (object_asks resource) body.now) }
+{
+    match str::from_utf8(body) {
+        Ok(text) => text_asks(alloc, resource, text),
+        Err(_) => Ok(Err(RequestRefusal::NotJson)),
+    }
+}
+
+/// What a text asks of a resource.
+fn text_asks(
+    alloc: Global,
+    resource: Resource,
+    text: &str,
+) -> Result<Result<Request, RequestRefusal>, AllocError>
+    ensures { IfOk result (λ read. read ≡ read_where (object_asks resource) (document text.now)) }
+{
+    let mut scratch = Scratch::new(alloc);
+    match Value::parse(alloc, text, &mut scratch) {
+        Ok(value) => object_asks(alloc, resource, &value),
+        Err(json::Error::OutOfMemory) => Err(AllocError),
+        Err(_) => Ok(Err(RequestRefusal::NotJson)),
     }
 }
 
@@ -183,130 +232,23 @@ fn by_body(
 fn object_asks(
     alloc: Global,
     resource: Resource,
-    value: &Value,
+    value: &Value<'_>,
 ) -> Result<Result<Request, RequestRefusal>, AllocError>
-    ensures read { IfOk result (λ read. read ≡ object_asks resource (view value.now)) }
-    ensures there { (tables : TableFile) → IsResourceOf tables resource → IfOk result (IsReadOf tables) }
+    ensures { IfOk result (λ read. read ≡ object_asks resource (value_view value.now)) }
 {
-    match resource {
-        Resource::Orders(customer) => order_in(alloc, customer, value),
-        Resource::Messages(customer) => message_in(alloc, customer, value),
-        Resource::Line(line) => Ok(line_in(line, value)),
-        Resource::Stop => Ok(stop_by(waits_in(value))),
-        _ => Ok(Err(RequestRefusal::BadMethod)),
-    }
+    let order = ordered_of(alloc, resource, value)?;
+    Ok(on_terms(order, terms_in(value)))
 }
 
-/// The order that an object is.
-fn order_in(
-    alloc: Global,
-    customer: u16,
-    value: &Value,
-) -> Result<Result<Request, RequestRefusal>, AllocError>
-    ensures read { IfOk result (λ read. read ≡ order_in customer (view value.now)) }
-    ensures there { (tables : TableFile) → HasCustomer tables customer → IfOk result (IsReadOf tables) }
-{
-    let text = text_in(alloc, value, "command")?;
-    let owner = owner_in(alloc, value)?;
-    Ok(order_by(customer, text, owner))
-}
-
-fn order_by(
-    customer: u16,
-    text: Option<Text>,
-    owner: Option<Option<User>>,
+fn on_terms(
+    order: Result<Order, RequestRefusal>,
+    terms: Result<Terms, RequestRefusal>,
 ) -> Result<Request, RequestRefusal>
-    ensures read { result ≡ order_by customer text owner }
-    ensures there { (tables : TableFile) → HasCustomer tables customer → IsReadOf tables result }
+    ensures { result ≡ on_terms order terms }
 {
-    match (text, owner) {
-        (None, _) => Err(RequestRefusal::BadText),
-        (Some(_), None) => Err(RequestRefusal::BadUser),
-        (Some(text), Some(owner)) => Ok(Request::Order(customer, owner, text)),
-    }
-}
-
-/// The message that an object is.
-fn message_in(
-    alloc: Global,
-    customer: u16,
-    value: &Value,
-) -> Result<Result<Request, RequestRefusal>, AllocError>
-    ensures read { IfOk result (λ read. read ≡ message_in customer (view value.now)) }
-    ensures there { (tables : TableFile) → HasCustomer tables customer → IfOk result (IsReadOf tables) }
-{
-    let whom = user_member(alloc, value, "to")?;
-    let text = text_in(alloc, value, "text")?;
-    Ok(message_by(customer, whom, text))
-}
-
-fn message_by(
-    customer: u16,
-    whom: Option<User>,
-    text: Option<Text>,
-) -> Result<Request, RequestRefusal>
-    ensures read { result ≡ message_by customer whom text }
-    ensures there { (tables : TableFile) → HasCustomer tables customer → IsReadOf tables result }
-{
-    match (whom, text) {
-        (None, _) => Err(RequestRefusal::BadUser),
-        (Some(_), None) => Err(RequestRefusal::BadText),
-        (Some(whom), Some(text)) => Ok(Request::Message(customer, whom, text)),
-    }
-}
-
-/// How a line is to be, as an object says it.
-fn line_in(line: LineId, value: &Value) -> Result<Request, RequestRefusal>
-    ensures read { result ≡ line_in line (view value.now) }
-    ensures there { (tables : TableFile) → HasLine tables line → IsReadOf tables result }
-{
-    let Some(waits) = waits_in(value) else {
-        return Err(RequestRefusal::BadMoment);
-    };
-    match string_in(value, "state") {
-        Some(text) => line_by(line, wish_of_text(text, moment_by(waits))),
-        None => Err(RequestRefusal::BadState),
-    }
-}
-
-fn line_by(line: LineId, wish: Option<LineWish>) -> Result<Request, RequestRefusal>
-    ensures read { result ≡ line_by line wish }
-    ensures there { (tables : TableFile) → HasLine tables line → IsReadOf tables result }
-{
-    match wish {
-        Some(wish) => Ok(Request::Line(line, wish)),
-        None => Err(RequestRefusal::BadState),
-    }
-}
-
-fn wish_of_text(text: &str, moment: EndMoment) -> Option<LineWish>
-    ensures { result ≡ wish_of_text text.now moment }
-{
-    if text == "started" {
-        Some(LineWish::Started)
-    } else if text == "stopped" {
-        Some(LineWish::Stopped(moment))
-    } else {
-        None
-    }
-}
-
-fn stop_by(waits: Option<bool>) -> Result<Request, RequestRefusal>
-    ensures read { result ≡ stop_by waits }
-    ensures there { (tables : TableFile) → IsReadOf tables result }
-{
-    match waits {
-        Some(waits) => Ok(Request::Stop(moment_by(waits))),
-        None => Err(RequestRefusal::BadMoment),
-    }
-}
-
-fn moment_by(waits: bool) -> EndMoment
-    ensures { result ≡ moment_by waits }
-{
-    if waits {
-        EndMoment::WhenIdle
-    } else {
-        EndMoment::AtOnce
+    match (order, terms) {
+        (Err(why), _) => Err(why),
+        (Ok(_), Err(why)) => Err(why),
+        (Ok(order), Ok(terms)) => Ok(Request::Order(terms, order)),
     }
 }

@@ -1,16 +1,18 @@
 //! What a path names.
 
-ghost use Rattle.std.specs.Prelude.{◌≡◌, ◌<◌, ◌==◌, ◌∷◌, length, position, bytes_eq, IfOk, IfSome};
+ghost use Rattle.std.specs.Prelude.{◌≡◌, ◌<◌, ◌==◌, ◌∷◌, length, position, bytes_eq, IfOk, IfSome, Ok};
 ghost use Rattle.std.specs.Option.{option_map};
 ghost use Rattle.njh_table.specs.TableFile.{TableFile, line_named};
-ghost use Rattle.njh_request.specs.Named.{HasCustomer, IsResourceOf};
-ghost use Rattle.njh_request.specs.Paths.{customer_named, customer_of_name, number_in};
+ghost use Rattle.njh_request.specs.Named.{HasCustomer, IsNamedOf};
+ghost use Rattle.njh_request.specs.Paths.{customer_named, customer_of_name, key_of, line_by};
 ghost use Rattle.njh_request.specs.Paths.{parts_of, resource_alone, resource_below, resource_named, resource_of};
-ghost use Rattle.njh_request.specs.Paths.{resource_of_customer, resource_of_parts, resource_of_version};
+ghost use Rattle.njh_request.specs.Paths.{resource_of_customer, resource_of_version};
 ghost use Rattle.njh_request.specs.Paths.{resource_at, resource_of_plain, resource_of_words};
 
-use crate::numbers::number_in;
+use crate::order_key::OrderKey;
 use crate::parts::first_part;
+use crate::quote::Quote;
+use crate::refusal::RequestRefusal;
 use njh_ebcdic::Name;
 use njh_table::{LineId, NamedCustomer, Tables};
 use percent_encoding::percent_decode;
@@ -32,30 +34,41 @@ pub enum Resource {
     Orders(u16),
     /// What the hub says to a customer's users: `/v1/customers/NAME/messages`.
     Messages(u16),
-    /// What came of an order: `/v1/orders/NUMBER`.
-    Outcome(u64),
+    /// What came of an order: `/v1/orders/NUMBER` or `/v1/orders/NAME`.
+    Outcome(OrderKey),
     /// A line's state: `/v1/lines/NAME`.
     Line(LineId),
     /// The end of the service: `/v1/stop`.
     Stop,
+    /// The table file, read now: `/v1/reload`.
+    Reload,
+    /// A table file beside what the hub has: `/v1/diff`.
+    Diff,
 }
 
 impl Resource {
-    /// What a path names as a request writes it, with escapes as `%23` for `#`, if it names
-    /// something. Out of memory is the only refusal.
-    pub fn at(alloc: Global, tables: &Tables, path: &str) -> Result<Option<Resource>, AllocError>
-        ensures resource { IfOk result (λ resource. resource ≡ resource_at tables.now path.now) }
-        ensures there { IfOk result (λ resource. IfSome resource (IsResourceOf tables.now)) }
+    /// What a path names as a request writes it, with escapes as `%23` for `#`; or who or what isn't
+    /// there. Out of memory is the only failure.
+    pub fn at(
+        alloc: Global,
+        tables: &Tables,
+        path: &str,
+    ) -> Result<Result<Resource, RequestRefusal>, AllocError>
+        ensures named { IfOk result (λ named. named ≡ resource_at tables.now path.now) }
+        ensures there { IfOk result (IsNamedOf tables.now) }
     {
         let mut plain = Vec::new(alloc);
         percent_decode(path.as_bytes()).append_to(&mut plain)?;
-        Ok(of_plain(tables, &plain))
+        match of_plain(tables, &plain) {
+            Some(named) => Ok(named),
+            None => Ok(Err(RequestRefusal::NoResource(Quote::of(path)))),
+        }
     }
 
-    /// What a path without escapes names, if it names something.
-    pub fn of(tables: &Tables, path: &str) -> Option<Resource>
-        ensures resource { result ≡ resource_of tables.now path.now }
-        ensures there { IfSome result (IsResourceOf tables.now) }
+    /// What a path without escapes names, if it names something that may be there.
+    pub fn of(tables: &Tables, path: &str) -> Option<Result<Resource, RequestRefusal>>
+        ensures named { result ≡ resource_of tables.now path.now }
+        ensures there { IfSome result (IsNamedOf tables.now) }
     {
         let (front, behind) = first_part(path);
         if front != "" {
@@ -66,9 +79,9 @@ impl Resource {
 }
 
 /// What bytes name, if they are a text and it names something.
-fn of_plain(tables: &Tables, bytes: &[u8]) -> Option<Resource>
-    ensures resource { result ≡ resource_of_plain tables.now bytes.now }
-    ensures there { IfSome result (IsResourceOf tables.now) }
+fn of_plain(tables: &Tables, bytes: &[u8]) -> Option<Result<Resource, RequestRefusal>>
+    ensures named { result ≡ resource_of_plain tables.now bytes.now }
+    ensures there { IfSome result (IsNamedOf tables.now) }
 {
     match str::from_utf8(bytes) {
         Ok(path) => Resource::of(tables, path),
@@ -77,9 +90,9 @@ fn of_plain(tables: &Tables, bytes: &[u8]) -> Option<Resource>
 }
 
 /// What the parts of a path behind its first stroke name.
-fn of_version(tables: &Tables, path: &str) -> Option<Resource>
-    ensures resource { result ≡ resource_of_version tables.now (parts_of path.now) }
-    ensures there { IfSome result (IsResourceOf tables.now) }
+fn of_version(tables: &Tables, path: &str) -> Option<Result<Resource, RequestRefusal>>
+    ensures named { result ≡ resource_of_version tables.now (parts_of path.now) }
+    ensures there { IfSome result (IsNamedOf tables.now) }
 {
     let (version, behind) = first_part(path);
     if version != "v1" {
@@ -89,9 +102,9 @@ fn of_version(tables: &Tables, path: &str) -> Option<Resource>
 }
 
 /// What words name.
-fn of_words(tables: &Tables, path: &str) -> Option<Resource>
-    ensures resource { result ≡ resource_of_words tables.now (parts_of path.now) }
-    ensures there { IfSome result (IsResourceOf tables.now) }
+fn of_words(tables: &Tables, path: &str) -> Option<Result<Resource, RequestRefusal>>
+    ensures named { result ≡ resource_of_words tables.now (parts_of path.now) }
+    ensures there { IfSome result (IsNamedOf tables.now) }
 {
     match first_part(path) {
         (word, None) => alone(word),
@@ -100,9 +113,9 @@ fn of_words(tables: &Tables, path: &str) -> Option<Resource>
 }
 
 /// What a word and those behind it name.
-fn behind_word(tables: &Tables, word: &str, path: &str) -> Option<Resource>
-    ensures resource { result ≡ resource_of_words tables.now (word.now ∷ parts_of path.now) }
-    ensures there { IfSome result (IsResourceOf tables.now) }
+fn behind_word(tables: &Tables, word: &str, path: &str) -> Option<Result<Resource, RequestRefusal>>
+    ensures named { result ≡ resource_of_words tables.now (word.now ∷ parts_of path.now) }
+    ensures there { IfSome result (IsNamedOf tables.now) }
 {
     match first_part(path) {
         (name, None) => named(tables, word, name),
@@ -111,9 +124,14 @@ fn behind_word(tables: &Tables, word: &str, path: &str) -> Option<Resource>
 }
 
 /// What a word, a name and those behind it name.
-fn behind_name(tables: &Tables, word: &str, name: &str, path: &str) -> Option<Resource>
-    ensures resource { result ≡ resource_of_words tables.now (word.now ∷ name.now ∷ parts_of path.now) }
-    ensures there { IfSome result (IsResourceOf tables.now) }
+fn behind_name(
+    tables: &Tables,
+    word: &str,
+    name: &str,
+    path: &str,
+) -> Option<Result<Resource, RequestRefusal>>
+    ensures named { result ≡ resource_of_words tables.now (word.now ∷ name.now ∷ parts_of path.now) }
+    ensures there { IfSome result (IsNamedOf tables.now) }
 {
     match first_part(path) {
         (part, None) => below(tables, word, name, part),
@@ -122,77 +140,91 @@ fn behind_name(tables: &Tables, word: &str, name: &str, path: &str) -> Option<Re
 }
 
 /// What a word alone names.
-fn alone(word: &str) -> Option<Resource>
-    ensures resource { result ≡ resource_alone word.now }
-    ensures there { (tables : TableFile) → IfSome result (IsResourceOf tables) }
+fn alone(word: &str) -> Option<Result<Resource, RequestRefusal>>
+    ensures named { result ≡ resource_alone word.now }
+    ensures there { (tables : TableFile) → IfSome result (IsNamedOf tables) }
 {
     if word == "status" {
-        Some(Resource::Status)
+        Some(Ok(Resource::Status))
     } else if word == "customers" {
-        Some(Resource::Customers)
+        Some(Ok(Resource::Customers))
     } else if word == "stop" {
-        Some(Resource::Stop)
+        Some(Ok(Resource::Stop))
+    } else if word == "reload" {
+        Some(Ok(Resource::Reload))
+    } else if word == "diff" {
+        Some(Ok(Resource::Diff))
     } else {
         None
     }
 }
 
 /// What a word and a name are.
-fn named(tables: &Tables, word: &str, name: &str) -> Option<Resource>
-    ensures resource { result ≡ resource_named tables.now word.now name.now }
-    ensures there { IfSome result (IsResourceOf tables.now) }
+fn named(tables: &Tables, word: &str, name: &str) -> Option<Result<Resource, RequestRefusal>>
+    ensures named { result ≡ resource_named tables.now word.now name.now }
+    ensures there { IfSome result (IsNamedOf tables.now) }
 {
     if word == "orders" {
         outcome_of(name)
     } else if word == "lines" {
-        line_of(tables, name)
+        Some(line_of(tables, name))
     } else {
         None
     }
 }
 
-/// The outcome of an order of a number.
-fn outcome_of(number: &str) -> Option<Resource>
-    ensures { result ≡ option_map Resource.Outcome (number_in number.now) }
+/// The outcome of the order of a number or a name.
+fn outcome_of(key: &str) -> Option<Result<Resource, RequestRefusal>>
+    ensures named { result ≡ option_map (λ k. Ok (Resource.Outcome k)) (key_of key.now) }
+    ensures there { (tables : TableFile) → IfSome result (IsNamedOf tables) }
 {
-    let number = number_in(number.as_bytes())?;
-    Some(Resource::Outcome(number))
+    let key = OrderKey::of(key)?;
+    Some(Ok(Resource::Outcome(key)))
 }
 
 /// The line of a name.
-fn line_of(tables: &Tables, name: &str) -> Option<Resource>
-    ensures resource { result ≡ option_map Resource.Line (line_named tables.now name.now) }
-    ensures there { IfSome result (IsResourceOf tables.now) }
+fn line_of(tables: &Tables, name: &str) -> Result<Resource, RequestRefusal>
+    ensures named { result ≡ line_by name.now (line_named tables.now name.now) }
+    ensures there { IsNamedOf tables.now result }
 {
-    let line = tables.line_owner(name)?;
-    Some(Resource::Line(line))
+    match tables.line_owner(name) {
+        Some(line) => Ok(Resource::Line(line)),
+        None => Err(RequestRefusal::NoLine(Quote::of(name))),
+    }
 }
 
 /// What a word, a customer's name and a part of it are.
-fn below(tables: &Tables, word: &str, name: &str, part: &str) -> Option<Resource>
-    ensures resource { result ≡ resource_below tables.now word.now name.now part.now }
-    ensures there { IfSome result (IsResourceOf tables.now) }
+fn below(
+    tables: &Tables,
+    word: &str,
+    name: &str,
+    part: &str,
+) -> Option<Result<Resource, RequestRefusal>>
+    ensures named { result ≡ resource_below tables.now word.now name.now part.now }
+    ensures there { IfSome result (IsNamedOf tables.now) }
 {
     if word != "customers" {
         return None;
     }
-    let customer = customer_named(tables, name)?;
-    of_customer(part, customer)
+    match customer_named(tables, name) {
+        Some(customer) => of_customer(part, customer),
+        None => Some(Err(RequestRefusal::NoCustomer(Quote::of(name)))),
+    }
 }
 
 /// What of a customer a word names.
-fn of_customer(part: &str, customer: u16) -> Option<Resource>
-    ensures resource { result ≡ resource_of_customer part.now customer }
-    ensures there { (tables : TableFile) → HasCustomer tables customer → IfSome result (IsResourceOf tables) }
+fn of_customer(part: &str, customer: u16) -> Option<Result<Resource, RequestRefusal>>
+    ensures named { result ≡ resource_of_customer part.now customer }
+    ensures there { (tables : TableFile) → HasCustomer tables customer → IfSome result (IsNamedOf tables) }
 {
     if part == "lines" {
-        Some(Resource::Lines(customer))
+        Some(Ok(Resource::Lines(customer)))
     } else if part == "files" {
-        Some(Resource::Files(customer))
+        Some(Ok(Resource::Files(customer)))
     } else if part == "orders" {
-        Some(Resource::Orders(customer))
+        Some(Ok(Resource::Orders(customer)))
     } else if part == "messages" {
-        Some(Resource::Messages(customer))
+        Some(Ok(Resource::Messages(customer)))
     } else {
         None
     }

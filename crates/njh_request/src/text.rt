@@ -1,61 +1,25 @@
 //! Texts in EBCDIC.
 
-ghost use Rattle.std.specs.Prelude.{◌≡◌, ◌≤◌, length, IfOk};
+ghost use Rattle.std.specs.Prelude.{◌≡◌, length, IfOk};
 ghost use Rattle.std.specs.List.{list_all};
 ghost use Rattle.std.specs.Str.{chars};
 ghost use Rattle.njh_ebcdic.specs.Characters.{bytes_or_blanks};
 ghost use Rattle.njh_request.specs.Fields.{has_byte, have_bytes, text_of_characters};
 
+use njh_customer::OrderText;
 use njh_ebcdic::{BLANK, byte_of};
 use std::alloc::{AllocError, Global};
-use std::marker::Model;
 
-/// A text in EBCDIC, of at most 148 bytes, as a nodal message has. A caller sees it as a list.
-#[derive(Drop)]
-pub struct Text {
-    bytes: Vec<u8>,
-}
-
-impl Model for Text {
-    ghost use Rattle.std.specs.Prelude.{◌≤◌, List, ℕ, length};
-
-    ghost Value = { List ℕ };
-
-    ghost view = { λ text. text.bytes.items };
-
-    ghost invariant = { λ text. length text.bytes.items ≤ 148 };
-}
-
-impl Text {
-    /// The text of these characters; none if one has no byte, or there are too many. Out of memory
-    /// is the only refusal.
-    pub fn of(alloc: Global, characters: &str) -> Result<Option<Text>, AllocError>
-        ensures { IfOk result (λ text. text ≡ text_of_characters characters.now) }
-    {
-        if !have_bytes(characters, MOST) {
-            return Ok(None);
-        }
-        let bytes = bytes_of(alloc, characters)?;
-        Ok(Some(Text { bytes }))
+/// The text of an order, of these characters; none if there are none or too many, or if one has no
+/// byte. Out of memory is the only refusal.
+pub(crate) fn text_of(alloc: Global, characters: &str) -> Result<Option<OrderText>, AllocError>
+    ensures { IfOk result (λ text. text ≡ text_of_characters characters.now) }
+{
+    if characters.is_empty() || !have_bytes(characters, MOST) {
+        return Ok(None);
     }
-
-    /// A copy of the bytes. Out of memory is the only refusal.
-    pub fn of_bytes(alloc: Global, bytes: &[u8]) -> Result<Text, AllocError>
-        requires { length bytes.now ≤ 148 }
-        ensures { IfOk result (λ text. text ≡ bytes.now) }
-    {
-        Ok(Text {
-            bytes: Vec::from_slice(alloc, bytes)?,
-        })
-    }
-
-    /// The bytes.
-    pub fn bytes(&self) -> &[u8]
-        ensures same { result.now ≡ self.now }
-        ensures few { length result.now ≤ 148 }
-    {
-        self.bytes.as_slice()
-    }
+    let bytes = bytes_of(alloc, characters)?;
+    Ok(Some(OrderText::of(alloc, &bytes)?))
 }
 
 /// How many bytes a text has at most.

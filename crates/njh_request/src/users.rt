@@ -1,51 +1,85 @@
 //! Users in a request.
 
-ghost use Rattle.std.specs.Prelude.{◌≡◌, IfOk, option_map};
+ghost use Rattle.std.specs.Prelude.{◌≡◌, IfOk};
 ghost use Rattle.std.specs.Option.{option_copied};
-ghost use Rattle.serde_json.specs.View.{view};
-ghost use Rattle.njh_request.specs.Bodies.{name_in, user_field, user_in};
+ghost use Rattle.json.specs.Value.{value_view};
+ghost use Rattle.njh_request.specs.Bodies.{field_in, node_in, node_of, user_by, user_of};
 ghost use Rattle.njh_request.specs.Fields.{digits_quoted, field_of_bytes, field_of_hex, field_of_text, is_quoted};
 
-use crate::bodies::string_in;
+use crate::bodies::odd_in;
+use crate::member::{Form, Member};
+use crate::refusal::RequestRefusal;
 use crate::text::{bytes_of, have_bytes};
 use hex::FromHexError;
+use json::Value;
 use njh_ebcdic::{BLANK, FIELD, Name, pad};
 use njh_header::User;
-use serde_json::Value;
 use std::alloc::{AllocError, Global};
 
-/// The user that a JSON object names: a node, and the user there if there is one. Out of memory is
-/// the only refusal.
-pub(crate) fn user_in(alloc: Global, value: &Value) -> Result<Option<User>, AllocError>
-    ensures { IfOk result (λ user. user ≡ user_in (view value.now)) }
+/// The user that a member is: a node, and the user there if there is one. Out of memory is the only
+/// failure.
+pub(crate) fn user_of(
+    alloc: Global,
+    value: &Value<'_>,
+    member: Member,
+) -> Result<Result<User, RequestRefusal>, AllocError>
+    ensures { IfOk result (λ user. user ≡ user_of member (value_view value.now)) }
 {
-    let Some(node) = name_in(value, "node") else {
-        return Ok(None);
-    };
-    match user_field(alloc, value)? {
-        Some(user) => Ok(Some(User { node, user })),
-        None => Ok(None),
+    match odd_in(value, Form::User, RequestRefusal::BadMember(member)) {
+        Some(why) => Ok(Err(why)),
+        None => plain_user(alloc, value),
     }
 }
 
-/// The name that a member is.
-pub(crate) fn name_in(value: &Value, key: &str) -> Option<Name>
-    ensures { result ≡ name_in key.now (view value.now) }
+/// The user that an object names.
+fn plain_user(alloc: Global, value: &Value<'_>) -> Result<Result<User, RequestRefusal>, AllocError>
+    ensures { IfOk result (λ user. user ≡ user_by (node_in (value_view value.now)) (field_in (value_view value.now))) }
 {
-    let text = string_in(value, key)?;
+    match node_in(value) {
+        Ok(node) => match field_in(alloc, value)? {
+            Ok(user) => Ok(Ok(User { node, user })),
+            Err(why) => Ok(Err(why)),
+        },
+        Err(why) => Ok(Err(why)),
+    }
+}
+
+/// The node that an object names.
+fn node_in(value: &Value<'_>) -> Result<Name, RequestRefusal>
+    ensures { result ≡ node_in (value_view value.now) }
+{
+    let Some(node) = value.get(Member::Node.name()) else {
+        return Err(RequestRefusal::MissingMember(Member::Node));
+    };
+    match node_of(node) {
+        Some(node) => Ok(node),
+        None => Err(RequestRefusal::BadMember(Member::Node)),
+    }
+}
+
+fn node_of(value: &Value<'_>) -> Option<Name>
+    ensures { result ≡ node_of (value_view value.now) }
+{
+    let text = value.as_str()?;
     Name::of_text(text).ok()
 }
 
 /// The field of the user that an object names; blanks if it names none.
-fn user_field(alloc: Global, value: &Value) -> Result<Option<[u8; FIELD]>, AllocError>
-    ensures { IfOk result (λ field. field ≡ user_field (view value.now)) }
+fn field_in(
+    alloc: Global,
+    value: &Value<'_>,
+) -> Result<Result<[u8; FIELD], RequestRefusal>, AllocError>
+    ensures { IfOk result (λ field. field ≡ field_in (value_view value.now)) }
 {
-    match value.get("user") {
-        None => Ok(Some([BLANK; FIELD])),
-        Some(user) => match user.as_str() {
-            Some(text) => field_of_text(alloc, text),
-            None => Ok(None),
-        },
+    let Some(user) = value.get(Member::User.name()) else {
+        return Ok(Ok([BLANK; FIELD]));
+    };
+    let Some(text) = user.as_str() else {
+        return Ok(Err(RequestRefusal::BadMember(Member::User)));
+    };
+    match field_of_text(alloc, text)? {
+        Some(field) => Ok(Ok(field)),
+        None => Ok(Err(RequestRefusal::BadMember(Member::User))),
     }
 }
 

@@ -1,10 +1,8 @@
-use Rattle.std.proofs.Common.{Option, IfSome, subst}
-use Rattle.njh_request.specs.Named.{IsResourceOf}
-use Rattle.njh_request.specs.declared.resource.Resource.{Resource}
+use Rattle.std.proofs.Common.{option_map}
+use Rattle.njh_request.proofs.ReadLaws.{reads-there}
 use Rattle.njh_request.proofs.request.Request.read.Goals as goal
 
-pub returns-in-Some-clause-there : goal.returns-in-Some-clause-there
-returns-in-Some-clause-there c =
-    c.asked.ensures.there c.args.tables.now
-    (subst (λ (o : Option Resource). IfSome o (IsResourceOf c.args.tables.now)) c.in-Some.is
-    c.in_ok-resource.ensures.there)
+pub returns-clause-there : goal.returns-clause-there
+returns-clause-there c =
+    reads-there c.args.tables.now c.asked_where.result c.in_ok-named.named c.args.method.now
+    (option_map (λ q. q.now) c.args.query) c.args.body.now c.asked_where.ensures c.in_ok-named.ensures.there
