@@ -60,6 +60,7 @@ kind_of events.LineStarted = kinds.Orders
 kind_of events.LineDrains = kinds.Orders
 kind_of events.LineStopped = kinds.Orders
 kind_of (events.ServiceEnds moment) = kinds.Orders
+kind_of (events.OrderGiven number terms) = kinds.Orders
 kind_of (events.RequestRefused refusal) = kinds.Requests
 kind_of (events.NoRequest visitors) = kinds.Requests
 kind_of (events.SpoolAstray faults) = kinds.Others

@@ -16,9 +16,10 @@ severity_number Error = 3
 severity_number Warning = 4
 severity_number Information = 6
 
--- only a sign-off ends a session in order
+-- only a sign-off ends a session in order, or the operator, who stops its line
 abbrev pub end_severity : DownCause → Severity
 end_severity (why.Ended ends.SignOff) = Information
+end_severity why.Stopped = Information
 end_severity _ = Warning
 
 abbrev pub change_severity : SessionChange → Severity

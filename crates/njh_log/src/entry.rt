@@ -4,6 +4,7 @@ use crate::awaited::Awaited;
 use crate::last_frame::LastFrame;
 use crate::listen_cause::ListenCause;
 use crate::notice_line::NoticeLine;
+use crate::order_line::write_giver;
 use crate::reasons::{EndText, RefusalText};
 use crate::route_news::RouteNews;
 use njh_block::Stream;
@@ -13,7 +14,7 @@ use njh_hub::{FileSummaryView, HubFault};
 use njh_line::Refusal;
 use njh_presence::SpoolFaults;
 use njh_record::Kind;
-use njh_request::{EndMoment, RequestRefusal};
+use njh_request::{EndMoment, RequestRefusal, Terms};
 use std::fmt;
 use std::net::{IpAddr, SocketAddr};
 
@@ -96,6 +97,8 @@ pub enum LogEvent {
     LineStopped,
     /// The operator ends the service, at this moment.
     ServiceEnds(EndMoment),
+    /// Who gave the order of this number, as these terms of it say.
+    OrderGiven(u64, Terms),
     /// A request at the console was refused.
     RequestRefused(RequestRefusal),
     /// So many visitors of the console sent what is no request of HTTP.
@@ -145,6 +148,8 @@ pub enum DownCause {
     Tries(LastFrame),
     /// Its line says that it ended so.
     Ended(njh_line::SessionEnd),
+    /// The operator stopped its line.
+    Stopped,
 }
 
 /// What is told of a file.
@@ -239,9 +244,8 @@ impl fmt::Display for LogEvent {
             LogEvent::ServiceEnds(EndMoment::WhenIdle) => {
                 f.write_str("the operator ends the service once no file is on a stream")
             }
-            LogEvent::RequestRefused(refusal) => {
-                write!(f, "request refused: {}", refusal.sentence())
-            }
+            LogEvent::OrderGiven(number, terms) => write_giver(f, *number, terms),
+            LogEvent::RequestRefused(refusal) => write!(f, "request refused: {refusal}"),
             LogEvent::NoRequest(1) => f.write_str("a request was no HTTP"),
             LogEvent::NoRequest(visitors) => write!(f, "{visitors} requests were no HTTP"),
             LogEvent::SpoolAstray(faults) => write!(
@@ -287,6 +291,7 @@ impl fmt::Display for DownCause {
             DownCause::NoAnswer => f.write_str("no answer after five tries"),
             DownCause::Tries(last) => write!(f, "five tries in a row, {last} came last"),
             DownCause::Ended(end) => write!(f, "{}", EndText(*end)),
+            DownCause::Stopped => f.write_str("the operator stopped it"),
         }
     }
 }

@@ -157,6 +157,7 @@ pub(crate) fn kind_of(event: &LogEvent) -> EventKind
         LogEvent::LineDrains => EventKind::Orders,
         LogEvent::LineStopped => EventKind::Orders,
         LogEvent::ServiceEnds(_) => EventKind::Orders,
+        LogEvent::OrderGiven(_, _) => EventKind::Orders,
         LogEvent::RequestRefused(_) => EventKind::Requests,
         LogEvent::NoRequest(_) => EventKind::Requests,
         LogEvent::SpoolAstray(_) => EventKind::Others,

@@ -32,5 +32,5 @@ pub use log::{Log, LogStyle};
 pub use notice_line::NoticeLine;
 pub use order_line::OrderLine;
 pub use route_news::RouteNews;
-pub use severity::Severity;
+pub use severity::{Severity, severity_of};
 pub use spells::{Limit, Spell, Spells};

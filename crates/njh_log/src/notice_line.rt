@@ -16,7 +16,7 @@ pub struct NoticeLine {
     /// The owner there.
     user: [u8; FIELD],
     /// The text, and 0 after it.
-    text: [u8; LONGEST_MESSAGE],
+    pub text: [u8; LONGEST_MESSAGE],
     /// How many bytes the text has.
     length: u8,
 }

@@ -5,6 +5,7 @@ use njh_command::Replies;
 use njh_ebcdic::text_of;
 use njh_header::User;
 use njh_hub::{GivenOrder, HubFault};
+use njh_request::{OrderName, Terms};
 use std::fmt;
 
 /// An order that was given for a customer, and what came of it: in whose name it was given or whom
@@ -35,6 +36,28 @@ impl fmt::Display for OrderLine<'_> {
             Ok(()) => write_first(f, self.replies),
             Err(fault) => write!(f, ": refused: {fault}"),
         }
+    }
+}
+
+/// Writes who gave the order of this number, as the order's own terms say.
+pub(crate) fn write_giver<W: fmt::Write>(
+    f: &mut fmt::Formatter<W>,
+    number: u64,
+    terms: &Terms,
+) -> fmt::Result {
+    write!(f, "order {number}")?;
+    write_name(f, &terms.name)?;
+    match &terms.by {
+        Some(by) => write!(f, " is given by {by}"),
+        None => f.write_str(" is given"),
+    }
+}
+
+/// Writes the name of an order, if it has one.
+fn write_name<W: fmt::Write>(f: &mut fmt::Formatter<W>, name: &Option<OrderName>) -> fmt::Result {
+    match name {
+        Some(name) => write!(f, " ({name})"),
+        None => Ok(()),
     }
 }
 

@@ -41,7 +41,7 @@ impl fmt::Display for Severity {
 }
 
 /// How grave an event is.
-pub(crate) fn severity_of(event: &LogEvent) -> Severity
+pub fn severity_of(event: &LogEvent) -> Severity
     ensures { result ≡ severity_of event.now }
 {
     match event {
@@ -81,12 +81,13 @@ fn change_severity(change: SessionChange) -> Severity
     }
 }
 
-/// How grave the end of a session is: only a sign-off is in order.
+/// How grave the end of a session is: only a sign-off is in order, and a stop of its line.
 fn end_severity(end: DownCause) -> Severity
     ensures { result ≡ end_severity end }
 {
     match end {
         DownCause::Ended(njh_line::SessionEnd::SignOff) => Severity::Information,
+        DownCause::Stopped => Severity::Information,
         _ => Severity::Warning,
     }
 }
