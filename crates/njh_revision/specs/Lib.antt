@@ -1,3 +1,4 @@
 pub mod Giving
+pub mod News
 pub mod Origins
 pub mod Revisions

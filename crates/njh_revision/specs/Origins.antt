@@ -1,6 +1,6 @@
 -- From where the peers of lines may connect once a table file was read again. It is no part of a customer's entry: what
 -- the file says of a line holds at once, whatever else in it differs from what the hub was opened with.
-use Rattle.std.specs.Prelude.{ℕ, ◌==◌, ◌&&◌, Bool, List, bytes_eq, if◌then◌else◌, slice_get, Option, Some, None}
+use Rattle.std.specs.Prelude.{◌==◌, ◌&&◌, Bool, List, bytes_eq, if◌then◌else◌, slice_get, Option, Some, None}
 use Rattle.std.specs.Prelude.{option_and_then, option_map}
 use Rattle.njh_table.specs.declared.address_range.AddressRange.{AddressRange}
 use Rattle.njh_table.specs.declared.LineId.{LineId}

@@ -109,7 +109,7 @@ pub(crate) fn customer_difference(
 }
 
 /// What of two customers' own keys differs first.
-fn customer_key(customer: &NamedCustomer, other: &NamedCustomer) -> Option<CustomerKey>
+pub(crate) fn customer_key(customer: &NamedCustomer, other: &NamedCustomer) -> Option<CustomerKey>
     ensures { result ≡ None → (other.now.name ≡ customer.now.name) × (other.now.hub ≡ customer.now.hub)
         × (other.now.quota ≡ customer.now.quota) × (other.now.files ≡ customer.now.files)
         × (length other.now.lines ≡ length customer.now.lines) }
@@ -147,14 +147,14 @@ fn of_lines(customer: Name, lines: &[NamedLine], others: &[NamedLine]) -> Option
 }
 
 /// What of a line differs.
-fn of_line(customer: Name, line: &NamedLine, key: LineKey) -> Difference {
+pub(crate) fn of_line(customer: Name, line: &NamedLine, key: LineKey) -> Difference {
     let mut name = ArrayString::new();
     let _whole = name.try_push_str(line.name()).is_ok();
     Difference::Line(customer, name, key)
 }
 
 /// What of two lines differs first, the addresses from which their peers may connect aside.
-fn line_key(line: &NamedLine, other: &NamedLine) -> Option<LineKey>
+pub(crate) fn line_key(line: &NamedLine, other: &NamedLine) -> Option<LineKey>
     ensures { result ≡ None → what_stays other.now ≡ what_stays line.now }
 {
     if other.name() != line.name() {

@@ -5,6 +5,7 @@
 mod customer_routes;
 mod difference;
 mod known;
+mod news;
 mod origins;
 mod outcome;
 mod revision;

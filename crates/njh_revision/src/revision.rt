@@ -1,13 +1,15 @@
 //! New tables for a hub that runs.
 
-ghost use Rattle.std.specs.Prelude.{◌≡◌, ◌⊎◌, option_map, Some, None, IfSome, IfOk};
+ghost use Rattle.std.specs.Prelude.{◌≡◌, ◌⊎◌, length, option_and_then, option_map, Some, None, IfSome, IfOk};
 ghost use Rattle.njh_revision.specs.Giving.{IsPassedOver};
-ghost use Rattle.njh_revision.specs.Origins.{from_known, read_in};
+ghost use Rattle.njh_revision.specs.News.{HasAllOf, IsOutcomeOf};
+ghost use Rattle.njh_revision.specs.Origins.{from_known, from_read, read_in};
 ghost use Rattle.njh_revision.specs.Revisions.{opened_tables, AreKept, IsGiven};
 
 use crate::customer_routes::routes_of;
 use crate::difference::{customers_difference, size_difference};
 use crate::known::Known;
+use crate::news::news_of;
 use crate::origins::from_read;
 use crate::outcome::{SourceOutcome, fault_in};
 use crate::route_changes::RouteChanges;
@@ -134,12 +136,61 @@ impl<S: TableSource + Drop> Revision<S> {
             return None;
         }
         self.moment = now.saturating_add(SECOND);
-        let outcome = match self.source.changed()? {
+        let read = self.source.changed()?;
+        self.take_read(read)
+    }
+
+    /// Reads the source, whether it changed or not.
+    pub fn read(&mut self) -> Result<Tables, S::Fault>
+        ensures gives { S.gives None result }
+        ensures kept { self.new ≡ self.old }
+    {
+        self.source.read()
+    }
+
+    /// Reads the file of this name in the source's place.
+    pub fn read_at(&self, name: &str) -> Result<Tables, S::Fault>
+        ensures { S.gives (Some name.now) result }
+    {
+        self.source.read_at(name)
+    }
+
+    /// What tables that were read bring, a sentence each: of each customer that is given routes, and
+    /// of each that keeps its own since more differs, with what that is. None are there only if the
+    /// hub has all that the tables say, but for from where peers may connect. Out of memory is the
+    /// only refusal.
+    pub fn news(&self, read: &Tables) -> Result<Vec<String>, AllocError>
+        ensures { IfOk result (λ texts. length texts.items ≡ 0 → IfSome self.now (λ known. HasAllOf known read.now)) }
+    {
+        match &self.known {
+            Some(known) => news_of(self.alloc, known, &self.route_states, read),
+            None => Ok(Vec::new(self.alloc)),
+        }
+    }
+
+    /// Takes the tables that were read, if a customer can be given other routes by them, or if
+    /// nothing differs but from where peers may connect.
+    pub fn take_read(&mut self, read: Result<Tables, S::Fault>) -> Option<SourceOutcome<S::Fault>>
+        ensures kept { AreKept self.old self.new }
+        ensures outcome { IfSome result (λ outcome. IsOutcomeOf read outcome self.new) }
+        ensures none { result ≡ None → self.new ≡ None }
+    {
+        let outcome = match read {
             Ok(tables) => self.take(tables)?,
             Err(fault) => SourceOutcome::Refused(fault),
         };
         self.fault = fault_in(&outcome);
         Some(outcome)
+    }
+
+    /// From where the peer of a line may connect, by tables that were read. Nothing if they don't
+    /// have this line with its name, its customer and its port.
+    pub fn from_of<'a>(&self, read: &'a Tables, line: LineId) -> Option<&'a AddressRanges>
+        ensures { option_map (λ from. from.now) result
+            ≡ option_and_then (λ known. from_read known.opened read.now line) self.now }
+    {
+        let known = self.known.as_ref()?;
+        from_read(&known.opened, read, line)
     }
 
     /// Takes new tables, if a customer can be given other routes by them or nothing differs but from
@@ -150,6 +201,7 @@ impl<S: TableSource + Drop> Revision<S> {
             IsPassedOver result ⊎ (self.new ≡ Some (record old { last = tables }))) }
         ensures passed { IsPassedOver result → self.new ≡ self.old }
         ensures read { IfSome result (λ outcome. IfSome self.new (λ new. read_in new outcome ≡ Some tables)) }
+        ensures none { result ≡ None → self.new ≡ None }
     {
         let known = self.known.as_mut()?;
         match size_difference(&known.opened, &tables) {
@@ -190,6 +242,11 @@ impl<S: TableSource + Drop> Revision<S> {
             Ok(routes) => Some(Ok(NewRoutes { customer, routes })),
             Err(_) => Some(Err(customer)),
         }
+    }
+
+    /// Whether a customer may wait for routes.
+    pub fn is_awaited(&self) -> bool {
+        first_waiting(&self.route_states, self.next).is_some()
     }
 
     /// From where the peer of a line may connect, by the tables that were read at the last look,

@@ -92,8 +92,14 @@ pub(crate) fn mark(route_states: &mut [RouteState], known: &Known, tables: &Tabl
 }
 
 /// How the customer of a place is in new tables: if it has its routes these are what it was given.
-fn state_in(state: RouteState, place: usize, known: &Known, tables: &Tables) -> RouteState
-    ensures { result ≡ Has → (state ≡ Has) × HasRoutesOf place known.now.last tables.now }
+pub(crate) fn state_in(
+    state: RouteState,
+    place: usize,
+    known: &Known,
+    tables: &Tables,
+) -> RouteState
+    ensures routes { result ≡ Has → (state ≡ Has) × HasRoutesOf place known.now.last tables.now }
+    ensures agrees { result ≡ Has → AgreesAt place known.now.opened tables.now }
 {
     let Ok(customer) = u16::try_from(place) else {
         return RouteState::Apart;
