@@ -2,8 +2,10 @@ pub mod Awaiting
 pub mod News
 pub mod Prompting
 pub mod Sessions
+pub mod Stands
 pub mod Steps
 pub mod Streams
+pub mod Tally
 pub mod Telling
 pub mod Waking
 pub mod code

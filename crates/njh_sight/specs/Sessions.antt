@@ -43,7 +43,7 @@ tries_since was zero now = None
 tries_since None (suc tries) now = Some now
 tries_since (Some since) (suc tries) now = Some since
 
--- since when its connection is without a session that is up: since this ended, or as before
+-- since when its connection, or the line itself, is without a session that is up: since this ended, or as before
 abbrev pub no_session_since : (since : ℕ) → (was_up is_up : Bool) → (now : ℕ) → ℕ
 no_session_since since true false now = now
 no_session_since since true true now = since
@@ -83,6 +83,7 @@ abbrev pub after_step : Label → SessionView → DownCause → (now : ℕ) → 
 after_step label session end now = record label {
   in_session = in_session_after label.in_session label.up (is_up session.phase);
   no_session_since = no_session_since label.no_session_since label.up (is_up session.phase) now;
+  down_since = no_session_since label.down_since label.up (is_up session.phase) now;
   up_since = up_since label.up_since label.up (is_up session.phase) now;
   last_end = end_after label.last_end label.up (is_up session.phase) end;
   had_session = had_session label session;
@@ -139,14 +140,20 @@ tries_end None silent now bytes = if nat_lt 0 silent then why.NoAnswer else why.
 tries_end (Some since) silent now bytes =
     if nat_lt (now - since) silent then why.NoAnswer else why.Tries (last_frame bytes)
 
+-- a session that was lost on a line that is stopped is one that the operator stopped
+abbrev pub ended_on : (is_stopped : Bool) → line.SessionEnd → DownCause
+ended_on is_stopped ends.Lost = if is_stopped then why.Stopped else why.Ended ends.Lost
+ended_on is_stopped end = why.Ended end
+
 -- it gave up so, or its line says how the last one ended; on a line that the hub doesn't have it counts as lost
-abbrev pub session_end : (gave_up : Option DownCause) → (last_end : Option line.SessionEnd) → DownCause
-session_end (Some tries) last_end = tries
-session_end None (Some end) = why.Ended end
-session_end None None = why.Ended ends.Lost
+abbrev pub session_end : (gave_up : Option DownCause) → (is_stopped : Bool) → (last_end : Option line.SessionEnd)
+    → DownCause
+session_end (Some tries) is_stopped last_end = tries
+session_end None is_stopped (Some end) = ended_on is_stopped end
+session_end None is_stopped None = ended_on is_stopped ends.Lost
 
 -- What isn't told yet of a line's sessions, once its session was seen so and what may be told was: a session that was
--- up and isn't any more ended by its tries if it gave up so, and else as its line says.
-abbrev pub news_seen : Label → SessionView → (gave_up : Option DownCause) → (now : ℕ) → News
-news_seen label session gave_up now =
-    after_telling (after_session label session (session_end gave_up session.last_end) now).news now
+-- up and isn't any more ended by its tries if it gave up so, and else as its line says, which may be stopped.
+abbrev pub news_seen : Label → SessionView → (gave_up : Option DownCause) → (is_stopped : Bool) → (now : ℕ) → News
+news_seen label session gave_up is_stopped now =
+    after_telling (after_session label session (session_end gave_up is_stopped session.last_end) now).news now

@@ -1,6 +1,6 @@
 -- What is noted of a line at each step on it, and counted.
-use Rattle.std.specs.Prelude.{◌≡◌, ℕ, ◌+◌, Bool, true, false, ◌&&◌, ◌==◌, cond, min, List, length}
-use Rattle.std.specs.Prelude.{if◌then◌else◌, slice_index_or}
+use Rattle.std.specs.Prelude.{◌≡◌, ℕ, ◌+◌, Bool, true, false, ◌&&◌, ◌==◌, not, cond, min, List, length}
+use Rattle.std.specs.Prelude.{if◌then◌else◌, slice_index_or, Option, Some, None}
 use Rattle.njh_hub.specs.declared.session_view.SessionView.{SessionView}
 use Rattle.njh_sight.specs.Sessions.{is_up}
 use Rattle.njh_sight.specs.declared.steps.SentFrame.{SentFrame}
@@ -36,6 +36,19 @@ abbrev pub is_repeat : Steps → SessionView → SentFrame → Bool
 is_repeat was session sent =
     is_text sent && ((was.is_up && is_up session.phase) && (was.next_count == session.next_count))
 
+-- one that wasn't sent before
+abbrev pub is_new_block : Steps → SessionView → SentFrame → Bool
+is_new_block was session sent = is_text sent && not (is_repeat was session sent)
+
+-- ---- what came
+
+-- A further block was acted on: the last BCB is another one. A session begins with none.
+abbrev pub is_new_bcb : (last bcb : Option ℕ) → Bool
+is_new_bcb None None = false
+is_new_bcb (Some last) None = false
+is_new_bcb None (Some bcb) = true
+is_new_bcb (Some last) (Some bcb) = not (last == bcb)
+
 -- ---- what is noted
 
 -- one more, where there is one
@@ -47,9 +60,12 @@ abbrev pub steps_after : Steps → SessionView → List ℕ → Steps
 steps_after was session frame = record {
   is_up = is_up session.phase;
   next_count = session.next_count;
+  last_bcb = session.last_bcb;
   sent = sent_frame frame;
   naks = count_after was.naks (is_nak (sent_frame frame));
   repeats = count_after was.repeats (is_repeat was session (sent_frame frame));
+  blocks_in = count_after was.blocks_in (is_new_bcb was.last_bcb session.last_bcb);
+  blocks_out = count_after was.blocks_out (is_new_block was session (sent_frame frame));
 }
 
 -- What is noted of a line's last step is this: the session as the step left it, and the frame that it sent.

@@ -28,6 +28,10 @@ pub struct Customers {
     near: [bool; CUSTOMERS],
     /// Whether it was told that it is near the number of files that it may have.
     near_files: [bool; CUSTOMERS],
+    /// Since when it is near its quota, if it is, on the service's clock.
+    near_since: [u64; CUSTOMERS],
+    /// Since when it is near that number, if it is.
+    near_files_since: [u64; CUSTOMERS],
     /// How many files it may have, whole and coming in; 0 if that isn't known.
     most_files: [u32; CUSTOMERS],
     /// What it is called, if that is known.
@@ -189,6 +193,8 @@ impl Customers {
         Customers {
             near: [false; CUSTOMERS],
             near_files: [false; CUSTOMERS],
+            near_since: [0; CUSTOMERS],
+            near_files_since: [0; CUSTOMERS],
             most_files: [0; CUSTOMERS],
             names: [None; CUSTOMERS],
             files: [FileCount::NONE; CUSTOMERS],
@@ -249,24 +255,50 @@ impl Customers {
         }
     }
 
-    /// Whether a customer that uses so many blocks of its quota has come near it.
-    pub fn has_come_near_quota(&mut self, customer: u16, used: u32, quota: u32) -> bool
+    /// Whether a customer that uses so many blocks of its quota has come near it now.
+    pub fn has_come_near_quota(&mut self, customer: u16, used: u32, quota: u32, now: u64) -> bool
         ensures { self.new ≡ self.old }
     {
-        match self.near.get_mut(usize::from(customer)) {
-            Some(near) => has_come_near(near, used, quota),
-            None => false,
+        let customer = usize::from(customer);
+        if customer >= CUSTOMERS {
+            return false;
+        }
+        let has_come = has_come_near(&mut self.near[customer], used, quota);
+        if has_come {
+            self.near_since[customer] = now;
+        }
+        has_come
+    }
+
+    /// Since when a customer is near its quota, if that was seen.
+    pub fn near_since(&self, customer: usize) -> Option<u64> {
+        if customer < CUSTOMERS && self.near[customer] {
+            Some(self.near_since[customer])
+        } else {
+            None
         }
     }
 
-    /// Whether a customer that has so many whole files has come near the number that it may have.
+    /// Since when it is near the number of files that it may have, if that was seen.
+    pub fn near_files_since(&self, customer: usize) -> Option<u64> {
+        if customer < CUSTOMERS && self.near_files[customer] {
+            Some(self.near_files_since[customer])
+        } else {
+            None
+        }
+    }
+
+    /// Whether a customer that has so many whole files has come near the number that it may have now.
     /// Answers that number if so.
-    pub fn has_come_near_files(&mut self, customer: usize, files: u32) -> Option<u32>
+    pub fn has_come_near_files(&mut self, customer: usize, files: u32, now: u64) -> Option<u32>
         ensures { self.new ≡ self.old }
     {
-        let most = *self.most_files.get(customer)?;
-        let near = self.near_files.get_mut(customer)?;
-        if most > 0 && has_come_near(near, files, most) {
+        if customer >= CUSTOMERS {
+            return None;
+        }
+        let most = self.most_files[customer];
+        if most > 0 && has_come_near(&mut self.near_files[customer], files, most) {
+            self.near_files_since[customer] = now;
             Some(most)
         } else {
             None

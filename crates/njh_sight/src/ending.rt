@@ -2,8 +2,8 @@
 
 ghost use Rattle.std.specs.Prelude.{◌≡◌};
 ghost use Rattle.njh_sight.specs.Sessions.{is_session, is_up, no_session_since, session_change, session_end};
-ghost use Rattle.njh_sight.specs.Sessions.{end_after, in_session_after, refusal_event, refusals_event, tries_end};
-ghost use Rattle.njh_sight.specs.Sessions.{last_frame, tries_since, up_since};
+ghost use Rattle.njh_sight.specs.Sessions.{end_after, ended_on, in_session_after, refusal_event, refusals_event};
+ghost use Rattle.njh_sight.specs.Sessions.{last_frame, tries_end, tries_since, up_since};
 
 use njh_ebcdic::Name;
 use njh_line::{Phase, Refusal};
@@ -102,13 +102,35 @@ fn last_frame(bytes: LastBytes) -> LastFrame
     }
 }
 
-/// Why a session ended that is down: it gave up so, or its line says how the last one ended.
-pub fn session_end(gave_up: Option<DownCause>, last_end: Option<njh_line::SessionEnd>) -> DownCause
-    ensures { result ≡ session_end gave_up last_end }
+/// Why a session ended that is down: it gave up so, or its line, which may be stopped, says how the
+/// last one ended.
+pub fn session_end(
+    gave_up: Option<DownCause>,
+    is_stopped: bool,
+    last_end: Option<njh_line::SessionEnd>,
+) -> DownCause
+    ensures { result ≡ session_end gave_up is_stopped last_end }
 {
     match gave_up {
         Some(end) => end,
-        None => DownCause::Ended(last_end.unwrap_or(njh_line::SessionEnd::Lost)),
+        None => ended_on(is_stopped, last_end.unwrap_or(njh_line::SessionEnd::Lost)),
+    }
+}
+
+/// Why a session ended of which its line says that it ended so: one that was lost on a line that is
+/// stopped was stopped.
+fn ended_on(is_stopped: bool, end: njh_line::SessionEnd) -> DownCause
+    ensures { result ≡ ended_on is_stopped end }
+{
+    match end {
+        njh_line::SessionEnd::Lost => {
+            if is_stopped {
+                DownCause::Stopped
+            } else {
+                DownCause::Ended(end)
+            }
+        }
+        _ => DownCause::Ended(end),
     }
 }
 

@@ -25,6 +25,8 @@ pub struct LineNames<'a> {
     pub line: &'a str,
     /// The node at its other end.
     pub node: Name,
+    /// How many streams of each kind it has.
+    pub streams: u8,
 }
 
 /// What the log calls a line, and what it told of it.
@@ -40,6 +42,8 @@ pub struct Label {
     pub connected: bool,
     /// The node at its other end.
     pub node: Name,
+    /// How many streams of each kind it has.
+    pub streams: u8,
     /// Whether its session was up.
     pub up: bool,
     /// What of its sessions isn't told yet.
@@ -47,6 +51,9 @@ pub struct Label {
     /// Since when its connection is without a session that is up, on the service's clock: since it
     /// came, or since its session ended.
     pub no_session_since: u64,
+    /// Since when no session is up on it, on the service's clock: since the last one ended, or since
+    /// the start.
+    pub down_since: u64,
     /// Whether it was in a session, up or on the way there.
     pub in_session: bool,
     /// When it was seen that the session tried again, the first time of the tries in a row that it
@@ -77,9 +84,11 @@ impl Label {
             customer: names.customer,
             line,
             node: names.node,
+            streams: names.streams,
             up: false,
             news: News::none(),
             no_session_since: 0,
+            down_since: 0,
             in_session: false,
             tries_since: None,
             refusals: 0,
@@ -103,6 +112,7 @@ impl Label {
             .add(session_change(self.up, is_up, self.node, end));
         self.in_session = in_session_after(self.in_session, self.up, is_up);
         self.no_session_since = no_session_since(self.no_session_since, self.up, is_up, now);
+        self.down_since = no_session_since(self.down_since, self.up, is_up, now);
         self.up_since = up_since(self.up_since, self.up, is_up, now);
         self.last_end = end_after(self.last_end, self.up, is_up, end);
         self.had_session = self.had_session || is_up;

@@ -2,8 +2,10 @@
 
 ghost use Rattle.std.specs.Prelude.{◌≡◌, ℕ, ◌<◌, ◌↔◌, ◌&&◌, not, None, get_or, length, IsTrue, IfSome};
 ghost use Rattle.njh_sight.specs.Telling.{coming_at, ended_at, going_at};
+ghost use Rattle.njh_sight.specs.Tally.{answers_counted};
 ghost use Rattle.njh_sight.specs.code.Streams.{first_gone, is_gone, near_after};
 
+use crate::tally::{Answering, FileRefusal, Tally};
 use njh_log::FileLine;
 use njh_spool::FileId;
 use njh_stream::{Receiver, Sender};
@@ -11,7 +13,7 @@ use njh_stream::{Receiver, Sender};
 /// How many streams a line has each way: SYSIN 1 to 4, SYSOUT 1 to 4.
 pub const STREAMS: usize = 8;
 
-/// What a line's streams were about.
+/// What a line's streams were about, and what was counted of that.
 #[derive(Clone, Copy, Drop)]
 pub struct Streams {
     /// The files that came in.
@@ -22,6 +24,8 @@ pub struct Streams {
     pub ended: [bool; STREAMS],
     /// Of each that went out: what is told of it.
     pub lines: [Option<FileLine>; STREAMS],
+    /// What was counted of the line's files and commands.
+    pub tally: Tally,
 }
 
 impl Streams {
@@ -32,7 +36,20 @@ impl Streams {
             going: [None; STREAMS],
             ended: [false; STREAMS],
             lines: [None; STREAMS],
+            tally: Tally::none(),
         }
+    }
+
+    /// A block went out that didn't before, on a line with so many streams of each kind: counts the
+    /// requests for files that it refuses, for want of room if this is why there is none.
+    pub fn note_block(&mut self, frame: &[u8], streams: u8, why: FileRefusal)
+        ensures { self.new ≡ record self.old {
+          tally =
+              answers_counted 32 frame.now self.old.coming (record { streams = streams; why = why }) self.old.tally;
+        } }
+    {
+        let known = Answering { streams, why };
+        self.tally.note_block(frame, &self.coming, known);
     }
 }
 
@@ -71,7 +88,7 @@ pub fn files_coming(receivers: &[Receiver]) -> [Option<FileId>; STREAMS]
 }
 
 /// The file that comes in on the stream of a place.
-fn coming_at(receivers: &[Receiver], place: usize) -> Option<FileId>
+pub(crate) fn coming_at(receivers: &[Receiver], place: usize) -> Option<FileId>
     ensures { result ≡ coming_at receivers.now place }
 {
     match receivers.get(place) {
