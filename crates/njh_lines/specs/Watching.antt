@@ -23,6 +23,7 @@ use Rattle.njh_sight.specs.Prompting.{may_prompt, IsPrompted}
 use Rattle.njh_sight.specs.Steps.{IsNoted}
 use Rattle.njh_sight.specs.declared.customers.Row.{Row}
 use Rattle.njh_sight.specs.declared.steps.Steps.{Steps}
+use Rattle.njh_sight.specs.declared.tally.Tally.{Tally}
 use Rattle.njh_sight.specs.declared.traffic.Traffic.{Traffic}
 
 -- A line that is served: which it is, the address and the port on which it listens, or the peer that it dials, from
@@ -60,13 +61,14 @@ abbrev pub noted_of : {L C : Type 0} → Post L C → Noted
 noted_of post = record { traffic = post.traffic; site = post.moment; tells = news_moment post.label.news }
 
 -- What is seen of the attendant: the lines that it serves, by their places, what it noted of each, and of the steps
--- on it, how many sign-ons were refused on each as its session was seen last, what is ready of each, when each is
--- looked at, where the lines of each customer are and when they are looked at for what came, until when it waits, the
--- time, and when files came.
+-- on it, what it counted of its files, how many sign-ons were refused on each as its session was seen last, what is
+-- ready of each, when each is looked at, where the lines of each customer are and when they are looked at for what
+-- came, until when it waits, the time, and when files came.
 pub record Watched : Type 0 where
   pub lines : List ServedLine
   pub noted : List Noted
   pub steps : List Steps
+  pub tallies : List Tally
   pub refusals : List ℕ
   pub ready : List Readiness
   pub watches : List Watch

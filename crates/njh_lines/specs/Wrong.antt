@@ -1,6 +1,6 @@
--- What is wrong now with a line, as the log tells it: the first of these that is so. It isn't started; its port can't
--- be listened on, or its last dial failed; no session is up, and the last sign-on on it was refused, or its connection
--- is without a session for ten seconds.
+-- What is wrong now with a line, as the log tells it: the first of these that is so. Its port can't be listened on, or
+-- its last dial failed; no session is up, and the last sign-on on it was refused, or its connection is without a
+-- session for ten seconds. Nothing is wrong with one that the operator stopped, or has stopped once it is idle.
 use Rattle.std.specs.Prelude.{ℕ, Bool, if◌then◌else◌, Option, Some, None}
 use Rattle.njh_request.specs.declared.request.LineState.{LineState}
 use Rattle.njh_request.specs.declared.request.LineState.TheVariants.{Started, Draining, Stopped}
@@ -15,10 +15,17 @@ use Rattle.njh_lines.specs.declared.post.Post.{Post}
 use Rattle.njh_sites.specs.declared.site.Site.{Site}
 use Rattle.njh_sites.specs.declared.site.Site.TheVariants.{Listens, Dials}
 
-abbrev pub wrong_state : LineState → Option LogEvent
-wrong_state Started = None
-wrong_state Draining = Some events.LineDrains
-wrong_state Stopped = Some events.LineStopped
+-- what the operator wants of it
+abbrev pub intended_on : LineState → Option LogEvent
+intended_on Started = None
+intended_on Draining = Some events.LineDrains
+intended_on Stopped = Some events.LineStopped
+
+-- and then nothing is wrong
+abbrev pub wrong_where : LineState → Option LogEvent → Option LogEvent
+wrong_where Started event = event
+wrong_where Draining event = None
+wrong_where Stopped event = None
 
 abbrev pub wrong_site : {L C : Type 0} → Site (Door L) (Dial C) → Option LogEvent
 wrong_site (Listens (Open listener)) = None
@@ -31,5 +38,6 @@ first_wrong (Some event) other = Some event
 first_wrong None other = other
 
 abbrev pub wrong_on : {L C : Type 0} → Post L C → SessionView → (is_connected : Bool) → (now : ℕ) → Option LogEvent
-wrong_on post session is_connected now = first_wrong (wrong_state post.state)
+wrong_on post session is_connected now =
+    wrong_where post.state
     (first_wrong (wrong_site post.site) (wrong_session post.label session is_connected now))

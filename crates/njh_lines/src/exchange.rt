@@ -32,6 +32,7 @@ use crate::entrance::Entrance;
 use crate::groups::{begin_groups, end_group};
 use crate::line_state::is_draining;
 use crate::post::Post;
+use crate::queues::note_queues;
 use crate::sessions::follow;
 use crate::states::{settle_at, wish_at};
 use crate::surroundings::Surroundings;
@@ -43,7 +44,7 @@ use njh_command::Replies;
 use njh_hub::{Hub, HubFault};
 use njh_log::{EventKind, LimitedLog, Log, LogEvent, Place, Severity};
 use njh_request::LineWish;
-use njh_sight::{Customers, Label, LineNames, is_free};
+use njh_sight::{Customers, Label, LineNames, Queue, is_free};
 use njh_sites::{Door, Endpoint, ListenFault, Listening, Site, open};
 use njh_table::{AddressRanges, LineId, Tables};
 use njh_turns::{Depot, NewOrder};
@@ -53,6 +54,9 @@ use std::fmt;
 use std::io::Write;
 use std::marker::Model;
 use std::net::SocketAddr;
+
+/// How often it is looked which messages wait on lines, in milliseconds.
+const QUEUES: u64 = 1_000;
 
 /// What is done between the turns of a service's lines: it waits for the network, accepts, dials,
 /// ends connections, lets out what waits, and writes the log.
@@ -68,6 +72,10 @@ pub struct Exchange<N: Network + Drop, L: Write + Drop> {
     pub(crate) next: u64,
     /// When files came.
     arrivals: Arrivals,
+    /// Since when messages wait on the lines, as far as it was noted.
+    queues: Vec<Queue>,
+    /// When it is looked next which do.
+    queues_again: u64,
     /// Where the anterooms of lines take their memory, as these are added.
     alloc: Global,
 }
@@ -82,6 +90,7 @@ impl<N: Network + Drop, L: Write + Drop> Model for Exchange<N, L> {
       lines = map (served_line N.address_of) exchange.posts.items;
       noted = map (λ post. noted_of post) exchange.posts.items;
       steps = map (λ post. post.steps) exchange.posts.items;
+      tallies = map (λ post. post.streams.tally) exchange.posts.items;
       refusals = map (λ post. post.label.refusals) exchange.posts.items;
       ready = exchange.ready.items;
       watches = exchange.watches.items;
@@ -117,6 +126,8 @@ impl<N: Network + Drop, L: Write + Drop> Exchange<N, L> {
             groups: Vec::new(alloc),
             next: 0,
             arrivals: Arrivals::empty(alloc),
+            queues: Vec::new(alloc),
+            queues_again: 0,
             alloc,
         }
     }
@@ -130,8 +141,10 @@ impl<N: Network + Drop, L: Write + Drop> Exchange<N, L> {
             watches,
             groups,
             arrivals,
+            queues,
             ..
         } = self;
+        drop(queues);
         drop(posts);
         drop(ready);
         drop(watches);
@@ -144,8 +157,14 @@ impl<N: Network + Drop, L: Write + Drop> Exchange<N, L> {
     pub fn posts(&self) -> &[Post<N::Listener, N::Connection>]
         ensures lines { map (served_line N.address_of) result.now ≡ self.now.lines }
         ensures steps { map (λ post. post.steps) result.now ≡ self.now.steps }
+        ensures tallies { map (λ post. post.streams.tally) result.now ≡ self.now.tallies }
     {
         &self.posts
+    }
+
+    /// Since when messages wait on the lines, by their places, as far as it was noted.
+    pub fn queues(&self) -> &[Queue] {
+        &self.queues
     }
 
     /// When files came.
@@ -353,6 +372,18 @@ impl<N: Network + Drop, L: Write + Drop> Exchange<N, L> {
         drains
     }
 
+    /// Once a second notes which messages wait on each line, and didn't before.
+    pub fn note_queues(&mut self, hub: &Hub)
+        ensures { self.new ≡ self.old }
+    {
+        let now = self.surroundings.now;
+        if now < self.queues_again {
+            return;
+        }
+        self.queues_again = now.saturating_add(QUEUES);
+        note_queues(&mut self.queues, &self.posts, hub, now);
+    }
+
     /// Whether no file is on the streams of any line.
     pub fn are_free(&self, hub: &Hub) -> bool
         ensures { IsTrue result ↔ AreFree hub.now self.now.lines }
@@ -444,6 +475,8 @@ impl<N: Network + Drop, L: Write + Drop> Exchange<N, L> {
             slice_get self.old.steps place ≡ Some was → slice_get self.new.steps place ≡ Some now →
             HasLine hub.now line.id →
             now ≡ steps_after was (line_view (hub_line line.id hub.now).state) frame.now }
+        ensures others { (other : ℕ) → other ≢ place →
+            slice_get self.new.tallies other ≡ slice_get self.old.tallies other }
     {
         let Some(post) = self.posts.get_mut(place) else {
             return;

@@ -1,6 +1,6 @@
 //! A line that is served, as the attendant sees it.
 
-ghost use Rattle.std.specs.Prelude.{◌≡◌};
+ghost use Rattle.std.specs.Prelude.{◌≡◌, None, IsSome};
 ghost use Rattle.std.specs.declared.net.socket_addr.SocketAddr.{SocketAddr};
 ghost use Rattle.njh_request.specs.declared.request.LineState.TheVariants.{Started};
 ghost use Rattle.njh_sites.specs.Dialling.{moment_of_loss, site_lost};
@@ -15,7 +15,7 @@ use crate::line_state::change_event;
 use njh_hub::SessionView;
 use njh_log::{DownCause, LogEvent};
 use njh_request::LineState;
-use njh_sight::{Label, Steps, Streams, Traffic};
+use njh_sight::{Label, Stands, Steps, Streams, Traffic};
 use njh_sites::{Dial, Door, Site, kept_until};
 use njh_table::LineId;
 use std::net::SocketAddr;
@@ -31,14 +31,18 @@ pub struct Post<Li: Drop, C: Drop> {
     pub line: LineId,
     /// How it is served.
     pub state: LineState,
+    /// Since when it is served so, on the service's clock.
+    pub state_since: u64,
     /// Its door, or its dials.
     pub site: Site<Door<Li>, Dial<C>>,
     /// Who comes to it.
     pub entrance: Entrance<C>,
     /// What the log calls it, and what it told of it.
     pub label: Label,
-    /// What its streams were about after the last step on it.
+    /// What its streams were about after the last step on it, and what was counted of that.
     pub streams: Streams,
+    /// How they stood after it, and since when.
+    pub stands: Stands,
     /// What was noted of it at that step, and counted.
     pub steps: Steps,
     /// What was noted of it as it was last looked at.
@@ -64,6 +68,7 @@ impl<Li: Drop, C: Drop> Post<Li, C> {
             linked: false,
             line: id,
             state: LineState::Started,
+            state_since: 0,
             site: match site {
                 Site::Listens(door) => Site::Listens(door),
                 Site::Dials(address) => Site::Dials(Dial::new(address)),
@@ -71,6 +76,7 @@ impl<Li: Drop, C: Drop> Post<Li, C> {
             entrance,
             label,
             streams: Streams::idle(),
+            stands: Stands::idle(),
             steps: Steps::none(),
             traffic: Traffic::none(),
         }
@@ -145,10 +151,13 @@ impl<Li: Drop, C: Drop> Post<Li, C> {
         ensures state { self.new.state ≡ state }
         ensures from { self.new.entrance.from ≡ self.old.entrance.from }
         ensures told { result ≡ change_event self.old.state state }
+        ensures changed { IsSome result → self.new.state_since ≡ now }
+        ensures stays { result ≡ None → self.new.state_since ≡ self.old.state_since }
     {
         let event = change_event(self.state, state);
         self.state = state;
         if event.is_some() {
+            self.state_since = now;
             self.moment = now;
             self.resume(now);
         }
@@ -159,6 +168,7 @@ impl<Li: Drop, C: Drop> Post<Li, C> {
     fn resume(&mut self, now: u64)
         ensures line { self.new.line ≡ self.old.line }
         ensures state { self.new.state ≡ self.old.state }
+        ensures since { self.new.state_since ≡ self.old.state_since }
         ensures from { self.new.entrance.from ≡ self.old.entrance.from }
         ensures site { (address_of : Li → SocketAddr)
             → site_kept address_of self.new.site ≡ site_kept address_of self.old.site }

@@ -17,16 +17,20 @@ ghost use Rattle.njh_lines.specs.Entrances.{parted};
 ghost use Rattle.njh_lines.specs.Wires.{IsLeft};
 ghost use Rattle.njh_lines.specs.Connecting.{moment_seen, place_of, silence_of, IsConnected, IsInSession, IsReady};
 ghost use Rattle.njh_lines.specs.Connecting.{told_refusal};
+ghost use Rattle.njh_lines.specs.LineStates.{is_stopped};
 
 use crate::connecting::{tell_end, told_refusal};
 use crate::entrance::Entrance;
+use crate::line_state::is_stopped;
 use crate::post::Post;
 use crate::surroundings::Surroundings;
 use crate::telling::{tell_commands, tell_files};
 use njh_arrivals::Arrivals;
 use njh_hub::{Hub, SessionView};
 use njh_log::DownCause;
-use njh_sight::{Label, awaited_event, awaits_again, session_end, session_of, tries_end};
+use njh_sight::{
+    Label, awaited_event, awaits_again, room_refusal, session_end, session_of, tries_end,
+};
 use njh_table::LineId;
 use njh_wire::{Connection, ConnectionEnd, LineWire, Network};
 use std::io::Write;
@@ -57,13 +61,15 @@ pub(crate) fn look<N: Network + Drop, L: Write + Drop>(
     ensures ends { HasLine hub.now post.old.line →
         ¬ (IsInSession post.old.label.in_session wire.old × HasGivenUp hub.now post.old.line) →
         let session = line_view (hub_line post.old.line hub.now).state in
-        post.new.label.news ≡ news_seen post.old.label session None surroundings.old.now }
+        post.new.label.news
+        ≡ news_seen post.old.label session None (is_stopped post.old.state) surroundings.old.now }
     ensures tries { HasLine hub.now post.old.line → IsInSession post.old.label.in_session wire.old →
         HasGivenUp hub.now post.old.line →
         let session = line_view (hub_line post.old.line hub.now).state in
         let silence = silence_of wire.old in
         let tries = tries_end post.old.label.tries_since silence surroundings.old.now wire.old.last_bytes in
-        post.new.label.news ≡ news_seen post.old.label session (Some tries) surroundings.old.now }
+        post.new.label.news
+        ≡ news_seen post.old.label session (Some tries) (is_stopped post.old.state) surroundings.old.now }
     ensures kept { HasLine hub.now post.old.line → ¬ HasGivenUp hub.now post.old.line →
         ¬ HasRefused post.old.label (line_view (hub_line post.old.line hub.now).state) →
         wire.new.connection ≡ wire.old.connection }
@@ -80,7 +86,9 @@ pub(crate) fn look<N: Network + Drop, L: Write + Drop>(
     let is_refused = end_refused(surroundings, entrance, &mut post.label, &session, wire);
     let end = heard_end(wire, gave_up.is_some() || is_refused);
     let is_early = post.label.in_session && !post.label.up;
-    post.see(session, session_end(gave_up, session.last_end), now);
+    let is_stopped = is_stopped(post.state);
+    let cause = session_end(gave_up, is_stopped, session.last_end);
+    post.see(session, cause, now);
     tell_sessions(surroundings, &mut post.label, now);
     tell_awaited(surroundings, &mut post.label, &session, wire.is_connected());
     if let Some(end) = end {
@@ -89,9 +97,9 @@ pub(crate) fn look<N: Network + Drop, L: Write + Drop>(
     }
 }
 
-/// Notes what a step on a line left, which sent this frame: tells what became of its files and
-/// which commands were carried out, and keeps what is to be told of its session. That one gave
-/// up is seen at the end of the turn, by what came last.
+/// Notes what a step on a line left, which sent this frame: tells and counts what became of its
+/// files and which commands were carried out, and keeps what is to be told of its session. That
+/// one gave up is seen at the end of the turn, by what came last.
 pub(crate) fn follow<N: Network + Drop, L: Write + Drop>(
     surroundings: &mut Surroundings<N, L>,
     post: &mut Post<N::Listener, N::Connection>,
@@ -111,16 +119,19 @@ pub(crate) fn follow<N: Network + Drop, L: Write + Drop>(
         post.new.steps ≡ steps_after post.old.steps session frame.now }
     ensures session { HasLine hub.now post.old.line → ¬ HasGivenUp hub.now post.old.line →
         let session = line_view (hub_line post.old.line hub.now).state in
-        (post.new.label ≡ after_step post.old.label session (session_end None session.last_end) surroundings.old.now)
+        let end = session_end None (is_stopped post.old.state) session.last_end in
+        (post.new.label ≡ after_step post.old.label session end surroundings.old.now)
         × (post.new.moment ≡ moment_seen post.old.label session surroundings.old.now post.old.moment) }
     ensures gave_up { HasGivenUp hub.now post.old.line → post.new.label ≡ post.old.label }
 {
     let session = session_of(hub, post.line);
-    post.steps.note(&session, frame);
+    let is_new = post.steps.note(&session, frame);
+    note_block(post, hub, frame, is_new);
     if !hub.has_given_up(post.line) {
+        let is_stopped = is_stopped(post.state);
         post.follow(
             session,
-            session_end(None, session.last_end),
+            session_end(None, is_stopped, session.last_end),
             surroundings.now,
         );
     }
@@ -132,7 +143,20 @@ pub(crate) fn follow<N: Network + Drop, L: Write + Drop>(
         hub,
         arrivals,
     );
-    tell_commands(surroundings, &post.label, hub);
+    tell_commands(surroundings, &post.label, &mut post.streams.tally, hub);
+    post.stands.note(post.line, hub, surroundings.now);
+}
+
+/// Counts the requests for files that a step refused, if the frame that it sent is a block that
+/// wasn't sent before.
+fn note_block<Li: Drop, C: Drop>(post: &mut Post<Li, C>, hub: &Hub, frame: &[u8], is_new: bool)
+    ensures noted { post.new ≡ record post.old { streams = post.new.streams } }
+    ensures none { ¬ IsTrue is_new → post.new ≡ post.old }
+{
+    if is_new {
+        let why = room_refusal(hub, post.line.customer);
+        post.streams.note_block(frame, post.label.streams, why);
+    }
 }
 
 /// Ends the connection of a line that was in a session which gave up. Answers how that ended.

@@ -1,7 +1,9 @@
 //! What is told of a line's files and commands, and of its customer's quota.
 
 ghost use Rattle.std.specs.Prelude.{◌≡◌, ◌<◌};
-ghost use Rattle.njh_log.specs.Limiting.{IsToldText};
+ghost use Rattle.njh_log.specs.Limiting.{IsTold, IsToldText};
+ghost use Rattle.njh_lines.specs.Connecting.{place_of};
+ghost use Rattle.njh_sight.specs.Tally.{counted};
 
 use crate::surroundings::Surroundings;
 use njh_arrivals::Arrivals;
@@ -10,7 +12,7 @@ use njh_command::Replies;
 use njh_hub::{Hub, HubFault};
 use njh_log::{CommandLine, EventKind, FileLine, LogEvent, OrderLine, Place, Severity};
 use njh_sight::{
-    CUSTOMERS, Came, Label, STREAMS, Streams, arrival, ended, event_of_gone, files_coming,
+    CUSTOMERS, Came, Label, STREAMS, Streams, Tally, arrival, ended, event_of_gone, files_coming,
     files_going, first_gone, loss_on, summary_of,
 };
 use njh_spool::FileId;
@@ -52,7 +54,16 @@ fn tell_coming<N: Network + Drop, L: Write + Drop>(
 {
     let came = surroundings.customers.count_files(id.customer, hub);
     if came.are_there {
-        tell_newest(surroundings, id.customer, label, came.files, hub, arrivals);
+        let tally = &mut streams.tally;
+        tell_newest(
+            surroundings,
+            id.customer,
+            label,
+            came.files,
+            hub,
+            arrivals,
+            tally,
+        );
     }
     let Ok(receivers) = hub.receivers(id) else {
         return;
@@ -67,7 +78,8 @@ fn tell_coming<N: Network + Drop, L: Write + Drop>(
         };
         if let Some(file) = streams.coming[place] {
             let ended = Ended { id, place, file };
-            tell_ended(surroundings, ended, label, came, hub, arrivals);
+            let tally = &mut streams.tally;
+            tell_ended(surroundings, ended, label, came, hub, arrivals, tally);
         }
         streams.coming[place] = None;
     }
@@ -82,6 +94,7 @@ fn tell_newest<N: Network + Drop, L: Write + Drop>(
     files: u32,
     hub: &Hub,
     arrivals: &mut Arrivals,
+    tally: &mut Tally,
 )
     ensures now { surroundings.new.now ≡ surroundings.old.now }
     ensures customers { surroundings.new.customers ≡ surroundings.old.customers }
@@ -91,7 +104,8 @@ fn tell_newest<N: Network + Drop, L: Write + Drop>(
         let file = hub.number_at(customer, index);
         if let Some(summary) = hub.file_summary(customer, file) {
             arrivals.note(customer, file, seconds(surroundings));
-            surroundings.tell(label, arrival(summary.state, FileLine::of(&summary)));
+            let event = arrival(summary.state, FileLine::of(&summary));
+            tell_file(surroundings, label, tally, &event);
         }
     }
 }
@@ -104,6 +118,7 @@ fn tell_ended<N: Network + Drop, L: Write + Drop>(
     came: Came,
     hub: &Hub,
     arrivals: &mut Arrivals,
+    tally: &mut Tally,
 )
     requires { ended.place < 8 }
     ensures now { surroundings.new.now ≡ surroundings.old.now }
@@ -114,17 +129,36 @@ fn tell_ended<N: Network + Drop, L: Write + Drop>(
         Some(summary) => {
             if !came.are_there {
                 arrivals.note(id.customer, file, seconds(surroundings));
-                surroundings.tell(label, arrival(summary.state, FileLine::of(&summary)));
+                let event = arrival(summary.state, FileLine::of(&summary));
+                tell_file(surroundings, label, tally, &event);
             }
         }
         None => {
             if came.files > 0 && !came.are_there {
-                surroundings.tell(label, LogEvent::FileLeft(Stream::at(place as u8)));
+                let event = LogEvent::FileLeft(Stream::at(place as u8));
+                tell_file(surroundings, label, tally, &event);
             } else {
-                surroundings.tell(label, loss_on(hub, id, place));
+                tell_file(surroundings, label, tally, &loss_on(hub, id, place));
             }
         }
     }
+}
+
+/// Tells what became of a file of a line, and counts it.
+fn tell_file<N: Network + Drop, L: Write + Drop>(
+    surroundings: &mut Surroundings<N, L>,
+    label: &Label,
+    tally: &mut Tally,
+    event: &LogEvent,
+)
+    ensures now { surroundings.new.now ≡ surroundings.old.now }
+    ensures customers { surroundings.new.customers ≡ surroundings.old.customers }
+    ensures told { IsTold L.contents (place_of label.now) event.now surroundings.old.now surroundings.old.log
+        surroundings.new.log }
+    ensures counted { tally.new ≡ counted event.now tally.old }
+{
+    tally.note(*event);
+    surroundings.tell(label, *event);
 }
 
 /// The time, in seconds since the beginning of 1970.
@@ -175,7 +209,7 @@ fn tell_gone<N: Network + Drop, L: Write + Drop>(
             break;
         };
         if let Some(event) = event_of_gone(hub, customer, streams, place) {
-            surroundings.tell(label, event);
+            tell_file(surroundings, label, &mut streams.tally, &event);
         }
         streams.going[place] = None;
     }
@@ -199,9 +233,10 @@ fn tell_file_count<N: Network + Drop, L: Write + Drop>(
     ensures customers { surroundings.new.customers ≡ surroundings.old.customers }
 {
     let files = hub.file_count(customer);
+    let now = surroundings.now;
     match surroundings
         .customers
-        .has_come_near_files(usize::from(customer), files)
+        .has_come_near_files(usize::from(customer), files, now)
     {
         Some(most) => {
             surroundings.tell_of(label.customer, LogEvent::NearFiles(files, most));
@@ -223,9 +258,10 @@ fn tell_quota<N: Network + Drop, L: Write + Drop>(
     let (Ok(used), Ok(quota)) = (hub.used(customer), hub.quota(customer)) else {
         return;
     };
+    let now = surroundings.now;
     if surroundings
         .customers
-        .has_come_near_quota(customer, used, quota)
+        .has_come_near_quota(customer, used, quota, now)
     {
         surroundings.tell_of(label.customer, LogEvent::NearQuota(used, quota));
     }
@@ -239,11 +275,12 @@ struct Ended {
     file: FileId,
 }
 
-/// Tells of the commands that a step on a line carried out, if there are some: by one line of
-/// the log, with the last of them, who gave it, and the first reply.
+/// Tells of the commands that a step on a line carried out, if there are some, and counts them: by
+/// one line of the log, with the last of them, who gave it, and the first reply.
 pub(crate) fn tell_commands<N: Network + Drop, L: Write + Drop>(
     surroundings: &mut Surroundings<N, L>,
     label: &Label,
+    tally: &mut Tally,
     hub: &Hub,
 )
     ensures now { surroundings.new.now ≡ surroundings.old.now }
@@ -252,6 +289,7 @@ pub(crate) fn tell_commands<N: Network + Drop, L: Write + Drop>(
     let last = hub.last_command();
     let commands = last.count().saturating_sub(surroundings.commands);
     surroundings.commands = last.count();
+    tally.note_commands(commands);
     match last.who() {
         Some(who) if commands > 0 => {
             let line = CommandLine {

@@ -1,7 +1,7 @@
-//! What is wrong now.
+//! What is wrong with a line now, and what the operator wants of it.
 
 ghost use Rattle.std.specs.Prelude.{◌≡◌};
-ghost use Rattle.njh_lines.specs.Wrong.{first_wrong, wrong_on, wrong_site, wrong_state};
+ghost use Rattle.njh_lines.specs.Wrong.{first_wrong, intended_on, wrong_on, wrong_site, wrong_where};
 
 use crate::post::Post;
 use njh_hub::SessionView;
@@ -11,7 +11,7 @@ use njh_sight::wrong_session;
 use njh_sites::{Dial, Door, Site};
 
 /// What is wrong with a line whose session is seen so, as the log tells it: the first of the things
-/// that may be.
+/// that may be. Nothing is wrong with one that the operator stopped, or has stopped once it is idle.
 pub fn wrong_on<Li: Drop, C: Drop>(
     post: &Post<Li, C>,
     session: &SessionView,
@@ -22,7 +22,7 @@ pub fn wrong_on<Li: Drop, C: Drop>(
 {
     let site = wrong_site(&post.site);
     let session = wrong_session(&post.label, session, is_connected, now);
-    first_wrong(wrong_state(post.state), first_wrong(site, session))
+    wrong_where(post.state, first_wrong(site, session))
 }
 
 /// The first, or else the other.
@@ -35,9 +35,20 @@ fn first_wrong(event: Option<LogEvent>, other: Option<LogEvent>) -> Option<LogEv
     }
 }
 
-/// It isn't started.
-fn wrong_state(state: LineState) -> Option<LogEvent>
-    ensures { result ≡ wrong_state state }
+/// What would be wrong with a line, if it is started.
+fn wrong_where(state: LineState, event: Option<LogEvent>) -> Option<LogEvent>
+    ensures { result ≡ wrong_where state event }
+{
+    match state {
+        LineState::Started => event,
+        LineState::Draining => None,
+        LineState::Stopped => None,
+    }
+}
+
+/// What the operator wants of a line that isn't started.
+pub fn intended_on(state: LineState) -> Option<LogEvent>
+    ensures { result ≡ intended_on state }
 {
     match state {
         LineState::Started => None,

@@ -8,7 +8,7 @@ use Rattle.njh_sight.specs.Steps.{steps_after, IsNoted}
 use Rattle.njh_lines.specs.Watching.{served_line, ServedLine, Watched}
 use Rattle.njh_lines.specs.declared.post.Post.{Post}
 use Rattle.njh_sight.specs.declared.steps.Steps.{Steps}
-use Rattle.njh_lines.proofs.PostLaws.{line_there, lines_stay, post_there, seen_there, served_stays}
+use Rattle.njh_lines.proofs.PostLaws.{line_there, lines_stay, others_noted, post_there, seen_there, served_stays}
 use Rattle.njh_lines.proofs.exchange.Exchange.follow.Goals as goal
 
 pub returns-clause-lines : goal.returns-clause-lines
@@ -61,6 +61,14 @@ returns-clause-noted g c = λ line noted found seen there.
     let IsAfter : IsNoted (View post.line) c.args.frame.now after = record { up = refl; count = refl; sent = refl } in
     subst (λ (its : Steps). IsNoted (View line.id) c.args.frame.now its) (sym is)
     (subst (λ (id : LineId). IsNoted (View id) c.args.frame.now after) (sym same) IsAfter)
+
+-- of the others nothing is counted
+pub returns-clause-others : goal.returns-clause-others
+returns-clause-others g c = λ other apart.
+    others_noted
+    (λ (post : Post g.row.N-Listener.Denot g.row.N-Connection.Denot). post.streams.tally) c.self.inside.posts.items
+    c.args.self.now.tallies c.args.place other c.follow.new.post
+    (ap (λ (seen : Watched). seen.tallies) c.self.view_is) apart
 
 -- no line is where no post is
 pub returns-in_default-clause-noted : goal.returns-in_default-clause-noted

@@ -32,12 +32,15 @@ returns-clause-same g c =
     post new refl read (ap (λ (one : P). noted_of one) is) in
     let steps = lines_stay (λ (one : P). one.steps) posts (map (λ (one : P). one.steps) posts) c.args.place post new
     refl read (ap (λ (one : P). one.steps) is) in
+    let tallies = lines_stay (λ (one : P). one.streams.tally) posts (map (λ (one : P). one.streams.tally) posts)
+    c.args.place post new refl read (ap (λ (one : P). one.streams.tally) is) in
     let refusals = lines_stay (λ (one : P). one.label.refusals) posts (map (λ (one : P). one.label.refusals) posts)
     c.args.place post new refl read (ap (λ (one : P). one.label.refusals) is) in
     (λ i. record {
       lines = lines;
       noted = noted i;
       steps = steps i;
+      tallies = tallies i;
       refusals = refusals i;
       ready = c.self.inside.ready.items;
       watches = c.self.inside.watches.items;
