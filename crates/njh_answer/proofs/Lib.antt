@@ -1,6 +1,10 @@
 pub mod AddressLaws
 pub mod AnswerLaws
+pub mod Counting
+pub mod MemberLaws
 pub mod OwnerLaws
+pub mod QueueLaws
+pub mod SinceLaws
 pub mod Summing
 pub mod TableBounds
 pub mod Telling

@@ -5,6 +5,7 @@ use Rattle.std.proofs.lemmas.Slice.Eq.{bytes_eq-Decides}
 use Rattle.std.specs.List.{AllByRecursion, fold}
 use Rattle.std.specs.Prelude.{Result, Ok, Err, is_ok}
 use Rattle.njh_ebcdic.specs.Users.{User}
+use Rattle.njh_header.specs.FileNames.{FileName}
 use Rattle.njh_hub.specs.Files.{said_owner}
 use Rattle.njh_request.specs.declared.refusal.RequestRefusal.{RequestRefusal}
 use Rattle.njh_request.specs.declared.refusal.RequestRefusal.TheVariants as refusal
@@ -47,14 +48,14 @@ owned [] first owner is = (ap (owner-in first) is, tt)
 owned (f ∷ files) first owner is =
     owned-case (is_same_user first (owner-of f)) f files first owner (owned files first owner) refl is
 
-all-owned : (files : List WholeFile) (owner : User)
-    → fold owner_by (Err refusal.NoFile) (map owner-of files) ≡ Ok owner
+all-owned : (name : FileName) (files : List WholeFile) (owner : User)
+    → fold owner_by (Err (refusal.NoFile name)) (map owner-of files) ≡ Ok owner
     → (0 < length files) × AllByRecursion (IsOwnedBy owner) files
-all-owned [] owner is = absurd (let wrong : false ≡ true = ap is_ok is in cc)
-all-owned (f ∷ files) owner is =
+all-owned name [] owner is = absurd (let wrong : false ≡ true = ap is_ok is in cc)
+all-owned name (f ∷ files) owner is =
     let rest = owned files (owner-of f) owner is in
     let same = subst (λ (user : User). is_same_user user (owner-of f) ≡ true) rest.0 (same-user (owner-of f)) in
     (omega arith, (same, rest.1))
 
 pub owners_own_all : OwnersOwnAll
-owners_own_all name files owner is = all-owned (files_called name files) owner is
+owners_own_all name files owner is = all-owned name (files_called name files) owner is

@@ -16,7 +16,7 @@ use Rattle.njh_ebcdic.specs.Users.{User}
 use Rattle.njh_header.specs.FileNames.{FileName}
 use Rattle.njh_spool.specs.CustomerSpool.{CustomerSpool, WholeFile}
 use Rattle.njh_table.specs.Entries.{route_of}
-use Rattle.njh_table.specs.TableFile.{NamedLine, TableFile, customer_at}
+use Rattle.njh_table.specs.TableFile.{NamedLine, TableFile}
 use Rattle.njh_table.specs.declared.Route.TheVariants.{Here, Unknown}
 use Rattle.njh_command.specs.Files.{file_at, no_file}
 use Rattle.njh_hub.specs.Files.{said_name, said_owner}
@@ -26,7 +26,9 @@ use Rattle.njh_hub.specs.WholeHub.{HasLine, Part, no_entry, no_part, part}
 use Rattle.njh_table.specs.declared.LineId.{LineId}
 use Rattle.njh_request.specs.declared.refusal.RequestRefusal.{RequestRefusal}
 use Rattle.njh_request.specs.declared.refusal.RequestRefusal.TheVariants as refusal
-use Rattle.njh_answer.specs.Customers.{customer_data, no_tally, tally_of, tally_with}
+use Rattle.njh_arrivals.specs.Arrivals.{Seen, moment_in}
+use Rattle.njh_arrivals.specs.declared.arrivals.FileArrival.{FileArrival}
+use Rattle.njh_answer.specs.Customers.{customer_told, no_tally, oldest_of, tally_of, tally_with}
 use Rattle.njh_answer.specs.Files.{line_by_route}
 use Rattle.njh_answer.specs.Lines.{line_told, line_where}
 use Rattle.njh_answer.specs.Owners.{is_file_called, owner_by, owner_of_files}
@@ -69,12 +71,28 @@ ranged-more f first index ordered =
     rw one (map-range_with_len_more f first (index - first) index (omega arith))
 
 -- a customer more
-pub customers_more : (tables : TableFile) (parts : List Part) (first place : ℕ) → first ≤ place
-    → map (λ c. customer_data (customer_at tables c) (part c parts)) (range_with_len first (place + 1 - first))
-    ≡ map (λ c. customer_data (customer_at tables c) (part c parts)) (range_with_len first (place - first))
-    ++ customer_data (customer_at tables place) (part place parts) ∷ []
-customers_more tables parts first place ordered =
-    ranged-more (λ (c : ℕ). customer_data (customer_at tables c) (part c parts)) first place ordered
+pub customers_more : (tables : TableFile) (parts : List Part) (seen : Seen) (views : List LineView) (first place : ℕ)
+    → first ≤ place
+    → map (customer_told tables parts seen views) (range_with_len first (place + 1 - first))
+    ≡ map (customer_told tables parts seen views) (range_with_len first (place - first))
+    ++ customer_told tables parts seen views place ∷ []
+customers_more tables parts seen views first place ordered =
+    ranged-more (customer_told tables parts seen views) first place ordered
+
+oldest-case : (files : List WholeFile) (seen : List FileArrival) → 0 < length files
+    → oldest_of files seen ≡ moment_in (get_or files 0 no_file).number seen
+oldest-case [] seen there = absurd (omega (arith, there))
+oldest-case (f ∷ files) seen there = refl
+
+-- the first file, if there is one
+pub oldest_first : (s : CustomerSpool) (seen : List FileArrival) → 0 < length s.whole
+    → oldest_of s.whole seen ≡ moment_in (file_at 0 s).number seen
+oldest_first s seen there = oldest-case s.whole seen there
+
+-- and none if there is none
+pub oldest_none : (files : List WholeFile) (seen : List FileArrival) → length files ≡ 0 → oldest_of files seen ≡ None
+oldest_none [] seen none = refl
+oldest_none (f ∷ files) seen none = absurd (omega (arith, none))
 
 -- a line more
 pub lines_more : (named : List NamedLine) (c : ℕ) (p : Part) (views : List LineView) (first index : ℕ) → first ≤ index
@@ -112,7 +130,7 @@ owner_more name s index there =
       take_more s.whole index no_file there,
       filter-append p (take index s.whole) (f ∷ []),
       map-append own (filter p (take index s.whole)) (cond (p f) (f ∷ []) []),
-      fold-append owner_by (Err refusal.NoFile) (map own (filter p (take index s.whole)))
+      fold-append owner_by (Err (refusal.NoFile name)) (map own (filter p (take index s.whole)))
           (map own (cond (p f) (f ∷ []) [])),
     )
     (owner-case (p f) (owner_of_files name (take index s.whole)) f)

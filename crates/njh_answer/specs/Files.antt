@@ -20,7 +20,7 @@ use Rattle.njh_hub.specs.WholeHub.{Part}
 use Rattle.njh_hub.specs.declared.file_summary.FileSummaryView.{FileSummaryView}
 use Rattle.njh_arrivals.specs.Arrivals.{moment_in}
 use Rattle.njh_answer.specs.Fields.{file_name_text, name_text, user_data}
-use Rattle.njh_answer.specs.Lines.{moment_data}
+use Rattle.njh_answer.specs.Troubles.{moment_data}
 use Rattle.njh_answer.specs.Pages.{next_data, page_of, told}
 use Rattle.njh_arrivals.specs.declared.arrivals.FileArrival.{FileArrival}
 use Rattle.njh_answer.specs.declared.page.Page.{Page}

@@ -6,7 +6,9 @@ use Rattle.njh_header.specs.FileNames.{FileName}
 use Rattle.njh_spool.specs.CustomerSpool.{CustomerSpool, WholeFile}
 use Rattle.njh_table.specs.TableFile.{TableFile}
 use Rattle.njh_hub.specs.WholeHub.{Part, part}
+use Rattle.njh_request.specs.declared.order.Order.TheVariants as order
 use Rattle.njh_request.specs.declared.request.Request.TheVariants as request
+use Rattle.njh_request.specs.declared.terms.Terms.{Terms}
 use Rattle.njh_answer.specs.Answers.{answer_of}
 use Rattle.njh_arrivals.specs.Arrivals.{Seen, seen_of}
 use Rattle.njh_answer.specs.Files.{files_left, files_page, told_from}
@@ -57,10 +59,10 @@ pub record AnswersAreOwn (c : ℕ) (parts others : List Part) : Type 0 where
       (orders : List OrderRecord) (next : ℕ)
       → answer_of (request.Lines c from) parts tables service views seen orders next
       ≡ answer_of (request.Lines c from) others tables service views seen orders next
-  pub of_orders : (owner : Option User) (text : List ℕ) (tables : TableFile) (service : ServiceView)
-      (lines : List LineView) (seen : Seen) (orders_known : List OrderRecord) (next : ℕ)
-      → answer_of (request.Order c owner text) parts tables service lines seen orders_known next
-      ≡ answer_of (request.Order c owner text) others tables service lines seen orders_known next
+  pub of_orders : (terms : Terms) (owner : Option User) (text : List ℕ) (tables : TableFile) (service : ServiceView)
+      (lines : List LineView) (seen : Seen) (orders : List OrderRecord) (next : ℕ)
+      → answer_of (request.Order terms (order.Command c owner text)) parts tables service lines seen orders next
+      ≡ answer_of (request.Order terms (order.Command c owner text)) others tables service lines seen orders next
 
 abbrev pub AnswersAreOfTheCustomer : Type 0
 AnswersAreOfTheCustomer =

@@ -1,10 +1,15 @@
 pub mod Fields
 pub mod Addresses
 pub mod Pages
+pub mod Members
+pub mod Counts
+pub mod Troubles
+pub mod Queues
 pub mod Files
 pub mod Customers
 pub mod Lines
 pub mod Owners
+pub mod Tickets
 pub mod Orders
 pub mod Status
 pub mod Answers

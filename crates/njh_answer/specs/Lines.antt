@@ -23,8 +23,12 @@ use Rattle.njh_hub.specs.Views.{line_view}
 use Rattle.njh_hub.specs.WholeHub.{Part}
 use Rattle.njh_hub.specs.declared.session_view.SessionView.{SessionView}
 use Rattle.njh_answer.specs.Addresses.{guest_data, peer_data, refused_data}
+use Rattle.njh_answer.specs.Counts.{counts_data}
 use Rattle.njh_answer.specs.Fields.{file_name_text, name_text}
+use Rattle.njh_answer.specs.Members.{with_member}
 use Rattle.njh_answer.specs.Pages.{next_data, page_of}
+use Rattle.njh_answer.specs.Queues.{queue_where}
+use Rattle.njh_answer.specs.Troubles.{moment_data, moment_number, trouble_where}
 use Rattle.njh_answer.specs.declared.page.Page.{Page}
 use Rattle.njh_request.specs.declared.request.LineState.{LineState}
 use Rattle.njh_request.specs.declared.request.LineState.TheVariants.{Started, Draining, Stopped}
@@ -32,7 +36,7 @@ use Rattle.njh_answer.specs.declared.views.LineView.{LineView}
 
 -- how many lines an answer has at most
 abbrev pub lines_told : ℕ
-lines_told = 8
+lines_told = 4
 
 -- ---- its session
 
@@ -123,13 +127,15 @@ state_text Started = codes "started"
 state_text Draining = codes "draining"
 state_text Stopped = codes "stopped"
 
-abbrev pub moment_data : Option ℕ → Data
-moment_data None = null
-moment_data (Some moment) = number (unsigned moment)
+-- since when each stream stands as it stands
+abbrev pub stands_data : LineView → Data
+stands_data v = object (
+    member (codes "from_hub") (array (items_of (map moment_number v.going_since.items)))
+    (member (codes "to_hub") (array (items_of (map moment_number v.coming_since.items))) no_members))
 
-abbrev pub served_data : Option LineView → Data
-served_data None = null
-served_data (Some v) = object (
+-- how it is served, how its sessions were, and who comes to it
+abbrev pub callers_data : LineView → Data
+callers_data v = object (
     member (codes "connected") (moment_data v.connected)
     (member (codes "last_end") (string (string_bytes v.last_end))
     (member (codes "naks") (number (unsigned v.naks))
@@ -140,6 +146,25 @@ served_data (Some v) = object (
     (member (codes "state") (string (state_text v.state))
     (member (codes "up") (moment_data v.up)
     (member (codes "waiting") (array (items_of (map guest_data v.waiting.items))) no_members))))))))))
+
+-- with what was counted, and what is wrong
+abbrev pub with_stands : LineView → Data → Data
+with_stands v d =
+    with_member (codes "stands") (stands_data v) (with_member (codes "wrong") (trouble_where v.wrong) d)
+
+-- and what was counted on it
+abbrev pub with_counts : LineView → Data → Data
+with_counts v d = with_member (codes "counts") (counts_data v.counts) (with_stands v d)
+
+-- and since when it is as it is
+abbrev pub with_figures : LineView → Data → Data
+with_figures v d =
+    with_member (codes "state_since") (number (unsigned v.state_since)) (with_member (codes "down") (moment_data v.down)
+    (with_counts v d))
+
+abbrev pub served_data : Option LineView → Data
+served_data None = null
+served_data (Some v) = with_figures v (callers_data v)
 
 abbrev pub is_of_line : LineId → LineView → Bool
 is_of_line id v = (v.line.customer == id.customer) && (v.line.number == id.number)
@@ -153,10 +178,11 @@ line_data named s line served = object (
     (member (codes "messages") (messages_where line)
     (member (codes "name") (string named.name)
     (member (codes "node") (string (name_text named.entry.node))
+    (member (codes "queue") (queue_where served line)
     (member (codes "role") (string (role_text named.entry.role))
     (member (codes "served") (served_data served)
     (member (codes "session") (session_where line)
-    (member (codes "to_hub") (array (items_of (receivers_where s line))) no_members))))))))
+    (member (codes "to_hub") (array (items_of (receivers_where s line))) no_members)))))))))
 
 abbrev pub line_id : ℕ → ℕ → LineId
 line_id c index = record { customer = c; number = index }

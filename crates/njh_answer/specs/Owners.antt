@@ -20,7 +20,7 @@ is_file_called name other = bytes_eq name.node other.node && (name.number == oth
 -- the owner of files and of one more
 abbrev pub owner_by : Result User RequestRefusal → User → Result User RequestRefusal
 owner_by (Ok first) next = cond (is_same_user first next) (Ok first) (Err refusal.SeveralOwners)
-owner_by (Err refusal.NoFile) next = Ok next
+owner_by (Err (refusal.NoFile name)) next = Ok next
 owner_by (Err other) next = Err refusal.SeveralOwners
 
 -- the customer's files of a name
@@ -33,7 +33,7 @@ IsOwnedBy owner f = IsTrue (is_same_user owner (said_owner f.records))
 -- their owner, if it is one
 abbrev pub owner_of_files : FileName → List WholeFile → Result User RequestRefusal
 owner_of_files name files =
-    fold owner_by (Err refusal.NoFile) (map (λ f. said_owner f.records) (files_called name files))
+    fold owner_by (Err (refusal.NoFile name)) (map (λ f. said_owner f.records) (files_called name files))
 
 abbrev pub file_of : Command → Option FileName
 file_of commands.List = None

@@ -1,8 +1,7 @@
 -- What is told of the hub as a whole: sums over the customers of its tables, and what the service knows of itself.
-use Rattle.std.specs.Prelude.{ℕ, ◌-◌, Bool, false, List, length, map, codes, cond, sum, string_bytes, String}
+use Rattle.std.specs.Prelude.{ℕ, ◌-◌, Bool, false, List, length, map, codes, cond, sum, string_bytes}
 use Rattle.std.specs.Prelude.{Option, Some, None}
 use Rattle.std.specs.List.{range_with_len}
-use Rattle.std.specs.declared.alloc.Global.{Global}
 use Rattle.serde_json.specs.Data.{Data, number, unsigned, string, array, object, member, no_members}
 use Rattle.serde_json.specs.View.{items_of}
 use Rattle.njh_line.specs.Laws.{is_up}
@@ -10,7 +9,9 @@ use Rattle.njh_spool.specs.CustomerSpool.{used_blocks}
 use Rattle.njh_table.specs.TableFile.{TableFile, customer_at}
 use Rattle.njh_customer.specs.Customer.{CustomerLine}
 use Rattle.njh_hub.specs.WholeHub.{Part, part}
-use Rattle.njh_answer.specs.Lines.{line_where, moment_data}
+use Rattle.njh_answer.specs.Lines.{line_where}
+use Rattle.njh_answer.specs.Members.{with_member}
+use Rattle.njh_answer.specs.Troubles.{moment_data, text_data, trouble_data}
 use Rattle.njh_answer.specs.declared.views.ServiceView.{ServiceView}
 
 -- ---- sums over the customers of tables
@@ -53,23 +54,43 @@ blocks_data tables parts = object (
     member (codes "left") (number (unsigned (sum_of (quota_of parts) tables - sum_of (used_of parts) tables)))
     (member (codes "used") (number (unsigned (sum_of (used_of parts) tables))) no_members))
 
+-- how many files a customer may have
+abbrev pub most_of : TableFile → ℕ → ℕ
+most_of tables c = (customer_at tables c).files
+
+-- the blocks and the files that customers may have
+abbrev pub capacity_data : TableFile → List Part → Data
+capacity_data tables parts = object (
+    member (codes "blocks") (number (unsigned (sum_of (quota_of parts) tables)))
+    (member (codes "files") (number (unsigned (sum_of (most_of tables) tables))) no_members))
+
 abbrev pub lines_counted : TableFile → List Part → Data
 lines_counted tables parts = object (
     member (codes "all") (number (unsigned (sum_of (lines_of tables) tables)))
     (member (codes "up") (number (unsigned (sum_of (up_of tables parts) tables))) no_members))
 
-abbrev pub fault_data : String Global → Data
-fault_data fault = string (string_bytes fault)
-
--- {"blocks":{"left":183,"used":17},"customers":2,"faults":[],"file_bytes":null,"files":11,"lines":{"all":3,"up":1},
--- "since":1790650000,"version":"0.9"}
-abbrev pub status_data : TableFile → List Part → ServiceView → Data
-status_data tables parts s = object (
+-- the sums, what the service is, and what is wrong, in words
+abbrev pub sums_data : TableFile → List Part → ServiceView → Data
+sums_data tables parts s = object (
     member (codes "blocks") (blocks_data tables parts)
     (member (codes "customers") (number (unsigned (length tables.customers)))
-    (member (codes "faults") (array (items_of (map fault_data s.faults.items)))
+    (member (codes "faults") (array (items_of (map text_data s.troubles.items)))
     (member (codes "file_bytes") (moment_data s.file_bytes)
     (member (codes "files") (number (unsigned (sum_of (files_of parts) tables)))
     (member (codes "lines") (lines_counted tables parts)
     (member (codes "since") (number (unsigned s.since))
     (member (codes "version") (string (string_bytes s.version)) no_members))))))))
+
+-- with what is wrong, since when and how grave it is, and what the operator wants so
+abbrev pub with_troubles : ServiceView → Data → Data
+with_troubles s d =
+    with_member (codes "intended") (array (items_of (map trouble_data s.intended.items)))
+    (with_member (codes "wrong") (array (items_of (map trouble_data s.troubles.items))) d)
+
+-- {"blocks":{"left":183,"used":17},"capacity":{"blocks":200,"files":64},"customers":2,"faults":[],"file_bytes":null,
+-- "files":11,"intended":[],"lines":{"all":3,"up":1},"log_bytes":null,"now":1790650000,"since":1790640000,
+-- "version":"0.9","wrong":[]}
+abbrev pub status_data : TableFile → List Part → ServiceView → Data
+status_data tables parts s =
+    with_member (codes "now") (number (unsigned s.clock)) (with_member (codes "log_bytes") (moment_data s.log_bytes)
+    (with_member (codes "capacity") (capacity_data tables parts) (with_troubles s (sums_data tables parts s))))

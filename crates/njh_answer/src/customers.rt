@@ -5,11 +5,16 @@ ghost use Rattle.serde_json.specs.View.{view};
 ghost use Rattle.njh_hub.specs.WholeHub.{part};
 ghost use Rattle.njh_spool.specs.CustomerSpool.{used_blocks};
 ghost use Rattle.njh_table.specs.TableFile.{customer_at};
-ghost use Rattle.njh_answer.specs.Customers.{counted, customer_data, customers_data, customers_told_from, tally_of};
-ghost use Rattle.njh_answer.specs.Customers.{tally_with};
+ghost use Rattle.njh_arrivals.specs.Arrivals.{seen_of};
+ghost use Rattle.njh_answer.specs.Customers.{counted, customer_told, customers_data, customers_told_from, oldest_of};
+ghost use Rattle.njh_answer.specs.Customers.{tally_data, tally_of, tally_with};
 
+use crate::answering::Views;
+use crate::counts::{turned_of, turned_value};
 use crate::fields::name_text;
 use crate::page::Page;
+use crate::served::moment_value;
+use njh_arrivals::Arrivals;
 use njh_hub::Hub;
 use njh_spool::State;
 use njh_table::Tables;
@@ -32,65 +37,79 @@ pub(crate) struct Tally {
 /// Out of memory is the only refusal.
 pub(crate) fn customers_value(
     alloc: Global,
-    hub: &Hub,
-    tables: &Tables,
+    views: &Views<'_>,
     from: u64,
 ) -> Result<Value, AllocError>
-    ensures { IfOk result (λ value. view value ≡ customers_data tables.now hub.now from) }
+    ensures { IfOk result (λ value. view value ≡ customers_data views.now.tables.now views.now.hub.now
+        views.now.arrivals.now views.now.lines.now from) }
 {
-    let count = tables.customers().len();
+    let count = views.tables.customers().len();
     let page = Page::of(from, CUSTOMERS, count);
-    let customers = Value::Array(customer_values(alloc, hub, tables, page)?);
+    let customers = Value::Array(customer_values(alloc, views, page)?);
     let next = page.next(0, count);
     json!(in alloc; {"customers": customers, "next": next})
 }
 
 /// The customers of a page.
-fn customer_values(
-    alloc: Global,
-    hub: &Hub,
-    tables: &Tables,
-    page: Page,
-) -> Result<Vec<Value>, AllocError>
+fn customer_values(alloc: Global, views: &Views<'_>, page: Page) -> Result<Vec<Value>, AllocError>
     requires ordered { page.first ≤ page.end }
-    requires within { page.end ≤ length tables.now.customers }
-    ensures { IfOk result (λ values. map view values.items ≡ customers_told_from tables.now hub.now page) }
+    requires within { page.end ≤ length views.now.tables.now.customers }
+    ensures { IfOk result (λ values. map view values.items ≡ customers_told_from views.now.tables.now views.now.hub.now
+        views.now.arrivals.now views.now.lines.now page) }
 {
     let mut values = Vec::new(alloc);
     for customer in page.first..page.end {
-        values.push(customer_value(alloc, hub, tables, customer)?)?;
+        values.push(customer_value(alloc, views, customer)?)?;
     }
     Ok(values)
 }
 
 /// A customer.
 #[tactic(auto, using(crate::proofs::TableBounds::few_customers))]
-fn customer_value(
-    alloc: Global,
-    hub: &Hub,
-    tables: &Tables,
-    place: usize,
-) -> Result<Value, AllocError>
-    requires known { place < length tables.now.customers }
-    ensures { IfOk result (λ value. view value
-        ≡ customer_data (customer_at tables.now place) (part place hub.now)) }
+fn customer_value(alloc: Global, views: &Views<'_>, place: usize) -> Result<Value, AllocError>
+    requires known { place < length views.now.tables.now.customers }
+    ensures { IfOk result (λ value. view value ≡ customer_told views.now.tables.now views.now.hub.now
+        views.now.arrivals.now views.now.lines.now place) }
 {
-    let named = &tables.customers()[place];
+    let hub = views.hub;
+    let named = &views.tables.customers()[place];
     let customer = place as u16;
     let name = name_text(alloc, named.name())?;
-    let tally = tally_of(hub, customer);
+    let files = tally_value(alloc, tally_of(hub, customer))?;
+    let turned_away = turned_value(alloc, turned_of(views.lines, customer))?;
     json!(in alloc; {
         "arrived": hub.arrived(customer),
         "blocks": used_by(hub, customer),
-        "files": {
-            "held": tally.held,
-            "ready": tally.ready,
-            "refused": tally.refused,
-            "sending": tally.sending
-        },
+        "files": files,
+        "most_files": named.files(),
         "name": name,
-        "quota": quota_of(hub, customer)
+        "oldest": moment_value(oldest_of(hub, views.arrivals, customer)),
+        "quota": quota_of(hub, customer),
+        "turned_away": turned_away
     })
+}
+
+/// How many files are in each state, as it is told.
+fn tally_value(alloc: Global, tally: Tally) -> Result<Value, AllocError>
+    ensures { IfOk result (λ value. view value ≡ tally_data tally) }
+{
+    json!(in alloc; {
+        "held": tally.held,
+        "ready": tally.ready,
+        "refused": tally.refused,
+        "sending": tally.sending
+    })
+}
+
+/// When the file of a customer came that is there longest, if there is one and that was seen.
+#[tactic(auto, using(crate::proofs::Telling::oldest_first, crate::proofs::Telling::oldest_none))]
+fn oldest_of(hub: &Hub, arrivals: &Arrivals, customer: u16) -> Option<u64>
+    ensures { result ≡ oldest_of (part customer hub.now).customer.spool.whole (seen_of customer arrivals.now) }
+{
+    if hub.file_count(customer) == 0 {
+        return None;
+    }
+    arrivals.moment(customer, hub.number_at(customer, 0))
 }
 
 /// How many blocks a customer's files take; 0 where the hub has no such customer.

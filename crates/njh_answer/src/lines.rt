@@ -9,11 +9,13 @@ ghost use Rattle.njh_table.specs.TableFile.{customer_at};
 ghost use Rattle.njh_answer.specs.Lines.{going_data, is_of_line, line_data, line_told, line_where};
 ghost use Rattle.njh_answer.specs.Lines.{lines_data, lines_told_from, messages_where, name_where};
 ghost use Rattle.njh_answer.specs.Lines.{phase_text};
+ghost use Rattle.njh_answer.specs.Queues.{queue_where};
 ghost use Rattle.njh_answer.specs.Lines.{receiver_data, receivers_where, role_text, sender_data, senders_where};
 ghost use Rattle.njh_answer.specs.Lines.{served_data, session_data, session_where, turn_text};
 
 use crate::fields::{file_name_text, name_text};
 use crate::page::Page;
+use crate::queue::queue_value;
 use crate::served::served_value;
 use crate::views::LineView;
 use njh_hub::{Hub, SessionView};
@@ -24,9 +26,9 @@ use njh_table::{LineId, NamedLine, Role, Tables};
 use serde_json::{Value, json};
 use std::alloc::{AllocError, Global};
 
-/// How many lines an answer has at most: with 64 addresses that were refused a line has some 7,300
-/// bytes, and an answer of the console 65,536.
-const LINES: usize = 8;
+/// How many lines an answer has at most: with 64 addresses that were refused and 64 messages that
+/// wait a line has some 13,500 bytes, and an answer of the console 65,536.
+const LINES: usize = 4;
 
 /// A line's session.
 fn session_value(alloc: Global, session: &SessionView) -> Result<Value, AllocError>
@@ -233,7 +235,7 @@ fn messages_of(hub: &Hub, id: LineId) -> Value
 }
 
 /// JSON's null.
-fn nothing() -> Value
+pub(crate) fn nothing() -> Value
     ensures { view result ≡ null }
 {
     Value::Null
@@ -259,6 +261,14 @@ fn served_told(alloc: Global, lines: &[LineView], id: LineId) -> Result<Value, A
     served_value(alloc, served_as(lines, id))
 }
 
+/// The nodal messages that wait on a line.
+fn queue_told(alloc: Global, hub: &Hub, id: LineId, lines: &[LineView]) -> Result<Value, AllocError>
+    ensures { IfOk result (λ value. view value ≡ queue_where (find (is_of_line id) lines.now)
+        (line_where id.number (part id.customer hub.now))) }
+{
+    queue_value(alloc, hub, id, served_as(lines, id))
+}
+
 /// A line, by what the tables say of it.
 fn line_value(
     alloc: Global,
@@ -274,6 +284,7 @@ fn line_value(
     let from_hub = senders_told(alloc, hub, id)?;
     let messages = messages_of(hub, id);
     let node = name_text(alloc, named.node())?;
+    let queue = queue_told(alloc, hub, id, lines)?;
     let served = served_told(alloc, lines, id)?;
     let session = session_of(alloc, hub, id)?;
     let to_hub = receivers_told(alloc, hub, id)?;
@@ -282,6 +293,7 @@ fn line_value(
         "messages": messages,
         "name": named.name(),
         "node": node,
+        "queue": queue,
         "role": role_text(named.role()),
         "served": served,
         "session": session,

@@ -7,9 +7,10 @@ ghost use Rattle.njh_answer.specs.Owners.{owner_of_command};
 ghost use Rattle.njh_answer.specs.Owners.{owner_of_files};
 
 use njh_command::Command;
+use njh_customer::OrderText;
 use njh_header::{FileName, User};
 use njh_hub::Hub;
-use njh_request::{RequestRefusal, Text};
+use njh_request::RequestRefusal;
 
 /// In whose name a command is carried out: in that of the user who is given, or else of the owner of
 /// the files that it names, if they have one owner.
@@ -17,7 +18,7 @@ pub(crate) fn owner_for(
     hub: &Hub,
     customer: u16,
     owner: Option<User>,
-    text: &Text,
+    text: &OrderText,
 ) -> Result<User, RequestRefusal>
     ensures { result ≡ owner_for owner text.now (part customer hub.now).customer.spool.whole }
 {
@@ -62,7 +63,7 @@ fn file_of(command: Command) -> Option<FileName>
 fn owner_of_files(hub: &Hub, customer: u16, name: FileName) -> Result<User, RequestRefusal>
     ensures { result ≡ owner_of_files name (part customer hub.now).customer.spool.whole }
 {
-    let mut owner = Err(RequestRefusal::NoFile);
+    let mut owner = Err(RequestRefusal::NoFile(name));
     for index in 0..hub.file_count(customer) {
         let file = hub.summary_at(customer, index);
         if is_file_called(name, file.name) {
@@ -77,7 +78,7 @@ fn owner_by(owner: Result<User, RequestRefusal>, next: User) -> Result<User, Req
     ensures { result ≡ owner_by owner next }
 {
     match owner {
-        Err(RequestRefusal::NoFile) => Ok(next),
+        Err(RequestRefusal::NoFile(_)) => Ok(next),
         Ok(first) if is_same_user(first, next) => Ok(first),
         _ => Err(RequestRefusal::SeveralOwners),
     }

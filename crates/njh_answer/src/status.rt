@@ -5,12 +5,15 @@ ghost use Rattle.serde_json.specs.View.{view};
 ghost use Rattle.njh_line.specs.Laws.{is_up};
 ghost use Rattle.njh_hub.specs.WholeHub.{part};
 ghost use Rattle.njh_answer.specs.Lines.{line_where};
-ghost use Rattle.njh_answer.specs.Status.{blocks_data, fault_data, files_of, is_line_up, lines_counted, lines_of};
-ghost use Rattle.njh_answer.specs.Status.{quota_of, status_data, sum_of, up_of, up_to, used_of};
+ghost use Rattle.njh_answer.specs.Status.{blocks_data, capacity_data, files_of, is_line_up, lines_counted, lines_of};
+ghost use Rattle.njh_answer.specs.Status.{most_of, quota_of, status_data, sum_of, sums_data, up_of, up_to, used_of};
+ghost use Rattle.njh_answer.specs.Status.{with_troubles};
 
 use crate::customers::{quota_of, used_by};
 use crate::lines::lines_at;
+use crate::members::with_member;
 use crate::served::moment_value;
+use crate::troubles::{texts_value, troubles_value};
 use crate::views::ServiceView;
 use njh_hub::Hub;
 use njh_line::Phase;
@@ -27,8 +30,26 @@ pub(crate) fn status_value(
 ) -> Result<Value, AllocError>
     ensures { IfOk result (λ value. view value ≡ status_data tables.now hub.now service.now) }
 {
+    let value = sums_value(alloc, hub, tables, service)?;
+    let value = with_troubles(alloc, service, value)?;
+    let capacity = capacity_value(alloc, hub, tables)?;
+    let value = with_member(alloc, "capacity", capacity, value)?;
+    let log_bytes = moment_value(service.log_bytes);
+    let value = with_member(alloc, "log_bytes", log_bytes, value)?;
+    with_member(alloc, "now", Value::from(service.clock), value)
+}
+
+/// The sums over the hub, what the service is, and what is wrong, in words.
+fn sums_value(
+    alloc: Global,
+    hub: &Hub,
+    tables: &Tables,
+    service: &ServiceView,
+) -> Result<Value, AllocError>
+    ensures { IfOk result (λ value. view value ≡ sums_data tables.now hub.now service.now) }
+{
     let blocks = blocks_value(alloc, hub, tables)?;
-    let faults = Value::Array(fault_values(alloc, &service.faults)?);
+    let faults = texts_value(alloc, &service.troubles)?;
     let lines = lines_value(alloc, hub, tables)?;
     json!(in alloc; {
         "blocks": blocks,
@@ -42,16 +63,23 @@ pub(crate) fn status_value(
     })
 }
 
-/// What is wrong now.
-fn fault_values(alloc: Global, faults: &[String]) -> Result<Vec<Value>, AllocError>
-    ensures { IfOk result (λ values. map view values.items ≡ map fault_data faults.now) }
+/// The same with what is wrong, since when and how grave it is, and what the operator wants so.
+fn with_troubles(alloc: Global, service: &ServiceView, value: Value) -> Result<Value, AllocError>
+    ensures { IfOk result (λ told. view told ≡ with_troubles service.now (view value)) }
 {
-    let mut values = Vec::new(alloc);
-    for fault in faults {
-        let text = String::from_str(alloc, fault.as_str())?;
-        values.push(Value::String(text))?;
-    }
-    Ok(values)
+    let wrong = troubles_value(alloc, &service.troubles)?;
+    let value = with_member(alloc, "wrong", wrong, value)?;
+    let intended = troubles_value(alloc, &service.intended)?;
+    with_member(alloc, "intended", intended, value)
+}
+
+/// The blocks and the files that all customers may have.
+fn capacity_value(alloc: Global, hub: &Hub, tables: &Tables) -> Result<Value, AllocError>
+    ensures { IfOk result (λ value. view value ≡ capacity_data tables.now hub.now) }
+{
+    let blocks = quota_of_all(hub, tables);
+    let files = most_of_all(tables);
+    json!(in alloc; {"blocks": blocks, "files": files})
 }
 
 /// The blocks that all files take, and those that they may still take.
@@ -161,6 +189,26 @@ fn quota_of_all(hub: &Hub, tables: &Tables) -> u64
         sum += u64::from(quota_of(hub, customer));
     }
     sum
+}
+
+/// The files that all customers may have.
+#[tactic(auto, using(crate::proofs::Summing::sum_more))]
+fn most_of_all(tables: &Tables) -> u64
+    ensures { result ≡ sum_of (most_of tables.now) tables.now }
+{
+    let mut sum = 0;
+    for customer in 0..customer_count(tables) {
+        sum += u64::from(most_of(tables, customer));
+    }
+    sum
+}
+
+/// How many files a customer may have.
+fn most_of(tables: &Tables, customer: u16) -> u32
+    requires { customer < length tables.now.customers }
+    ensures { result ≡ most_of tables.now customer }
+{
+    tables.customer(customer).files()
 }
 
 /// How many customers there are.
