@@ -1,7 +1,7 @@
 pub mod AnswerLaws
 pub mod CallLaws
-pub mod OrderLaws
 pub mod PageLaws
+pub mod RoomLaws
 pub mod RoundLaws
 pub mod SeatLaws
 pub mod TalkLaws

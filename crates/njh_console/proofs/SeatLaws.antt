@@ -1,11 +1,10 @@
 -- The visitors, one after another.
-use Rattle.std.proofs.Common.{◌≡◌, ◌≢◌, ℕ, ◌+◌, ◌<◌, ◌≤◌, List, [], ◌++◌, length, set, get_or, refl, sym, ap, subst}
-use Rattle.std.proofs.Common.{◌∙◌, ⊎_elim, inl, inr, arith, append-nil}
-use Rattle.std.specs.Prelude.{Option, Some, None, take, drop}
+use Rattle.std.proofs.Common.{◌≡◌, ◌≢◌, ℕ, ◌+◌, ◌<◌, ◌≤◌, List, length, set, get_or, refl, sym, ap, subst}
+use Rattle.std.proofs.Common.{◌∙◌, ⊎_elim, inr, arith}
+use Rattle.std.specs.Prelude.{Option, Some, None}
 use Rattle.std.specs.Io.KnownBytes.{Keeps}
 use Rattle.std.proofs.lemmas.Bool.{cases_eq}
 use Rattle.std.proofs.lemmas.List.{get_or-set_same, get_or-set_other, get_or_read, length-set}
-use Rattle.http_server.specs.History.{after_sent, History}
 use Rattle.njh_console.specs.Seats.{AreEach, IsReadFrom, IsSentTo, Seat}
 
 -- Those before a place are so, and the others are as they were.
@@ -50,14 +49,13 @@ keeps_itself None = tt
 keeps_itself (Some bytes) = refl
 
 -- of whom nothing came
-pub nothing_came : {V : Type 0} (remaining : V → Option (List ℕ)) (now : ℕ) (s : Seat V) → IsReadFrom remaining now s s
-nothing_came remaining now s =
-    record { came = inr (keeps_itself (remaining s.socket), refl, refl); stays_failed = λ failed. failed }
+pub nothing_came : {V : Type 0} (remaining : V → Option (List ℕ)) (s : Seat V) → IsReadFrom remaining s s
+nothing_came remaining s = record {
+  came = inr (keeps_itself (remaining s.socket), refl, refl);
+  there = (refl, refl);
+  stays_failed = λ failed. failed;
+}
 
 -- to whom nothing went
-pub nothing_went : {V : Type 0} (now : ℕ) (s : Seat V) → IsSentTo now s s
-nothing_went now s = record { went = inr (refl, refl); stays_failed = λ failed. failed }
-
--- where no byte went out nothing changed
-pub none_sent : (h : History) → after_sent h 0 ≡ h
-none_sent h = ap (λ (sent : List ℕ). record h { sent = sent }) (append-nil h.sent)
+pub nothing_went : {V : Type 0} (s : Seat V) → IsSentTo s s
+nothing_went s = record { went = inr (refl, refl); there = (refl, refl); stays_failed = λ failed. failed }

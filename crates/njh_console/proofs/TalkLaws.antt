@@ -1,5 +1,5 @@
 -- Who asks, and what a connection owes him.
-use Rattle.std.proofs.Common.{◌≡◌, ◌≢◌, ◌⊎◌, ℕ, zero, suc, ◌<◌, ◌≤◌, List, [], ◌∷◌, length, refl, sym, ap, ◌∙◌, subst}
+use Rattle.std.proofs.Common.{◌≡◌, ◌≢◌, ◌⊎◌, ℕ, zero, suc, ◌<◌, ◌≤◌, List, [], ◌∷◌, length, refl, sym, ap, subst}
 use Rattle.std.proofs.Common.{⊎_elim, inl, inr, arith, length-append}
 use Rattle.httparse.specs.Grammar.{print_request}
 use Rattle.http1.specs.Message as Wire

@@ -1,14 +1,14 @@
 -- The visitors are looked at one after another.
-use Rattle.std.proofs.Common.{◌≡◌, ◌⊎◌, ℕ, zero, suc, ◌+◌, ◌<◌, Bool, true, false, List, [], ◌∷◌, ◌++◌, length, set, get_or}
-use Rattle.std.proofs.Common.{refl, sym, ap, ◌∙◌, subst, ⊎_elim, inl, inr, arith, length-append, append_assoc, append-nil}
+use Rattle.std.proofs.Common.{◌≡◌, ℕ, zero, suc, ◌+◌, ◌<◌, true, false, List, [], ◌∷◌, ◌++◌, length, set, get_or}
+use Rattle.std.proofs.Common.{refl, sym, ap, ◌∙◌, subst, ⊎_elim, arith, length-append, append_assoc, append-nil}
 use Rattle.std.specs.List.{remove}
 use Rattle.std.proofs.lemmas.List.{set_at}
 use Rattle.http_server.specs.Exchange.{Call, Calls, Chain}
-use Rattle.http_server.specs.History.{IsQuiet, IsServed}
+use Rattle.http_server.specs.History.{IsServed}
 use Rattle.njh_console.specs.Desks as desks
 use Rattle.njh_console.specs.Desks.{DeskState}
-use Rattle.njh_console.specs.Seats.{config, ArePassed, IsAsking, IsHeldUp, IsLookedAt, IsTurn, Seat}
-use Rattle.njh_console.specs.code.Looking.{AreLookedAt, IsMoved}
+use Rattle.njh_console.specs.Seats.{answered_at, config, ArePassed, IsAsking, IsHeldUp, IsLookedAt, IsSeen, IsTurn, Seat}
+use Rattle.njh_console.specs.code.Looking.{IsMoved}
 use Rattle.njh_console.proofs.CallLaws.{calls_seen}
 
 get_at : {S : Type 0} (passed : List S) (y : S) (back : List S) (place : ℕ) (d : S) → length passed ≡ place
@@ -95,11 +95,11 @@ looked_more {V} place first now was then to there read looked =
           (subst (λ (s : Seat V). IsLookedAt s then []) same looked);
     }
 
--- one was answered, and goes behind all the others
-pub turn_taken : {V : Type 0} (place : ℕ) (first now after : List (Seat V)) (was then : Seat V) (calls : List Call)
-    → LookedTo place first now → place < length now → was ≡ get_or now place was → IsLookedAt was then calls
-    → IsMoved place (set now place then) after → IsTurn first after calls
-turn_taken {V} place first now after was then calls to there read looked moved =
+-- one was answered at a moment, and goes behind all the others
+pub turn_taken : {V : Type 0} (moment place : ℕ) (first now after : List (Seat V)) (was then : Seat V)
+    (calls : List Call) → LookedTo place first now → place < length now → was ≡ get_or now place was
+    → IsLookedAt was then calls → IsMoved place moment (set now place then) after → IsTurn moment first after calls
+turn_taken {V} moment place first now after was then calls to there read looked moved =
     let next = next_at place first now to there in
     let seen : now ≡ to.passed ++ next.0 ∷ next.1 =
     to.now_is ∙ ap (λ (back : List (Seat V)). to.passed ++ back) next.2 in
@@ -122,8 +122,8 @@ turn_taken {V} place first now after was then calls to there read looked moved =
       then = then;
       answered = subst (λ (s : Seat V). IsLookedAt s then calls) same looked;
       after_is = moved.after_is
-          ∙ (ap (λ (s : List (Seat V)). s ++ moved.one ∷ []) others
-          ∙ ap (λ (s : Seat V). (to.passed ++ next.1) ++ s ∷ []) who);
+          ∙ (ap (λ (s : List (Seat V)). s ++ answered_at moment moved.one ∷ []) others
+          ∙ ap (λ (s : Seat V). (to.passed ++ next.1) ++ answered_at moment s ∷ []) who);
     }
 
 -- all were looked at, and none was answered
@@ -142,15 +142,10 @@ all_passed {V} place first now to all =
 
 -- ---- what a look is
 
--- how a visitor is afterwards
-abbrev pub IsSameBut : {V : Type 0} → Seat V → Seat V → Type 0
-IsSameBut before after = (after.socket ≡ before.socket) × (after.last ≡ before.last) × (after.failed ≡ before.failed)
-    × IsQuiet before.history after.history
-
 pub looked_at : {V : Type 0} (before after : Seat V) (calls : List Call)
     → after.history.calls ≡ before.history.calls ++ calls
     → (IsAsking before.history → after.history.calls ≡ before.history.calls → IsHeldUp after.history)
-    → ∥ IsServed config after.history ∥₁ → IsSameBut before after → IsLookedAt before after calls
+    → ∥ IsServed config after.history ∥₁ → IsSeen before after → IsLookedAt before after calls
 looked_at before after calls are asked served same = record {
   calls_are = are;
   asked = λ asking none. asked asking
@@ -163,7 +158,7 @@ looked_at before after calls are asked served same = record {
 pub nobody_answered : {V : Type 0} (d new : DeskState) (before after : Seat V)
     → (calls : Calls desks.IsServed d new before.history.calls after.history.calls)
     → (IsAsking before.history → after.history.calls ≡ before.history.calls → IsHeldUp after.history)
-    → ∥ IsServed config after.history ∥₁ → IsSameBut before after → new.done ≡ false
+    → ∥ IsServed config after.history ∥₁ → IsSeen before after → new.done ≡ false
     → IsLookedAt before after [] × (new ≡ d)
 nobody_answered {V} d new before after (calls, are, chain) asked served same undone =
     ⊎_elim (λ (none : (calls ≡ []) × (new ≡ d)).
@@ -177,7 +172,7 @@ nobody_answered {V} d new before after (calls, are, chain) asked served same und
 pub one_answered : {V : Type 0} (d new : DeskState) (before after : Seat V)
     → (calls : Calls desks.IsServed d new before.history.calls after.history.calls)
     → (IsAsking before.history → after.history.calls ≡ before.history.calls → IsHeldUp after.history)
-    → ∥ IsServed config after.history ∥₁ → IsSameBut before after → d.done ≡ false → new.done ≡ true
+    → ∥ IsServed config after.history ∥₁ → IsSeen before after → d.done ≡ false → new.done ≡ true
     → (c : Call) × (others : List Call) × IsLookedAt before after (c ∷ others)
     × Chain desks.IsServed d (c ∷ others) new
 one_answered {V} d new before after (calls, are, chain) asked served same undone done =

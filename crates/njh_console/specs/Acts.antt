@@ -1,59 +1,43 @@
 -- What is ordered by an answer.
-use Rattle.std.specs.Prelude.{⊤, Bool, true, false, Option, Some, None, ◌<◌, length}
+use Rattle.std.specs.Prelude.{⊤}
 use Rattle.http.specs.StatusCode.{IsStatusCode}
-use Rattle.njh_customer.specs.declared.given_order.GivenOrder.TheVariants as order
-use Rattle.njh_table.specs.TableFile.{TableFile, customer_at}
 use Rattle.njh_answer.specs.Answers.{Told}
 use Rattle.njh_answer.specs.declared.answering.Deed.{Deed}
 use Rattle.njh_answer.specs.declared.answering.Deed.TheVariants as deed
-use Rattle.njh_console.specs.Orders.{TakenOrders, with_order}
-use Rattle.njh_console.specs.declared.act.Act.{Act}
-use Rattle.njh_console.specs.declared.act.Act.TheVariants.{Line, Refused, Stop}
-use Rattle.njh_console.specs.declared.act.Taken.{Taken}
-use Rattle.njh_console.specs.declared.act.Taken.TheVariants as taken
+use Rattle.njh_answer.specs.declared.ticket.Ticket.{Ticket}
+use Rattle.njh_answer.specs.declared.work.Work.{Work}
+use Rattle.njh_answer.specs.declared.work.Work.TheVariants as work
+use Rattle.njh_console.specs.Orders.{TakenOrders, with_order, IsWorkFor}
+use Rattle.njh_console.specs.declared.act.Act.TheVariants as act
+use Rattle.njh_console.specs.declared.act.Asked.{Asked}
+use Rattle.njh_console.specs.declared.act.Asked.TheVariants.{Nothing, Refused, Given, Act, Tables}
 
--- it is an order for a customer
-abbrev pub is_order : Deed → Bool
-is_order deed.Nothing = false
-is_order (deed.Command c owner text) = true
-is_order (deed.Message c whom text) = true
-is_order (deed.Line id wish) = false
-is_order (deed.Stop moment) = false
-is_order (deed.Refused why) = false
+-- what is done for an order is what was ordered
+abbrev pub IsDeed : Deed → Type 0
+IsDeed deed.Nothing = ⊤
+IsDeed (deed.Refused why) = ⊤
+IsDeed (deed.Order ticket work) = IsWorkFor ticket.order work
 
--- the customer of an order is one of the tables'
-abbrev pub IsDeedOf : TableFile → Deed → Type 0
-IsDeedOf tables deed.Nothing = ⊤
-IsDeedOf tables (deed.Command c owner text) = c < length tables.customers
-IsDeedOf tables (deed.Message c whom text) = c < length tables.customers
-IsDeedOf tables (deed.Line id wish) = ⊤
-IsDeedOf tables (deed.Stop moment) = ⊤
-IsDeedOf tables (deed.Refused why) = ⊤
-
--- an answer is sent under a status of HTTP, and what it orders is for a customer of the tables
-pub record IsSound (tables : TableFile) (t : Told) : Type 0 where
+-- an answer is sent under a status of HTTP, and what it orders is what was asked
+pub record IsSound (t : Told) : Type 0 where
   pub status_known : IsStatusCode t.status
-  pub deed_known : IsDeedOf tables t.deed
-
--- what is ordered, as it is given on: an order with the name of its customer; of a refused request how it was refused
-abbrev pub taken_by : TableFile → Deed → Taken
-taken_by tables deed.Nothing = taken.Nothing
-taken_by tables (deed.Command c owner text) =
-    taken.Order (record { customer = c; order = order.Command owner text }) (customer_at tables c).name
-taken_by tables (deed.Message c whom text) =
-    taken.Order (record { customer = c; order = order.Message whom text }) (customer_at tables c).name
-taken_by tables (deed.Line id wish) = taken.Act (Line id wish)
-taken_by tables (deed.Stop moment) = taken.Act (Stop moment)
-taken_by tables (deed.Refused why) = taken.Act (Refused why)
+  pub deed_known : IsDeed t.deed
 
 -- an order is taken
-abbrev pub orders_after : Taken → TakenOrders → TakenOrders
-orders_after taken.Nothing o = o
-orders_after (taken.Order new name) o = with_order new name o
-orders_after (taken.Act act) o = o
+abbrev pub orders_after : Deed → TakenOrders → TakenOrders
+orders_after deed.Nothing o = o
+orders_after (deed.Refused why) o = o
+orders_after (deed.Order ticket work) o = with_order ticket work o
 
--- what is the service's own is handed on
-abbrev pub act_of : Taken → Option Act
-act_of taken.Nothing = None
-act_of (taken.Order new name) = None
-act_of (taken.Act act) = Some act
+-- what is left to the service of an order: to tell of it, if it is the hub's to carry out, and else to do it
+abbrev pub asked_for : Ticket → Work → Asked
+asked_for ticket (work.Customer c given) = Given ticket.number ticket.terms
+asked_for ticket (work.Line id wish) = Act ticket (act.Line id wish)
+asked_for ticket (work.Stop moment) = Act ticket (act.Stop moment)
+asked_for ticket work.Tables = Tables ticket
+
+-- what is left to the service of a round: an order, or how a request was refused
+abbrev pub asked_of : Deed → Asked
+asked_of deed.Nothing = Nothing
+asked_of (deed.Refused why) = Refused why
+asked_of (deed.Order ticket what) = asked_for ticket what

@@ -1,9 +1,8 @@
-//! What is ordered.
+//! What is ordered of the service itself.
 
-use njh_ebcdic::Name;
-use njh_request::{EndMoment, LineWish, RequestRefusal};
+use njh_answer::Ticket;
+use njh_request::{EndMoment, LineWish, RequestRefusal, Terms};
 use njh_table::LineId;
-use njh_turns::NewOrder;
 
 /// What is the service's own to do.
 #[derive(Clone, Copy, Debug, PartialEq, Eq)]
@@ -12,17 +11,20 @@ pub enum Act {
     Line(LineId, LineWish),
     /// The service is to end.
     Stop(EndMoment),
-    /// A request was refused so: the log tells it.
-    Refused(RequestRefusal),
 }
 
-/// What was ordered in a round.
+/// What a round leaves to the service.
 #[derive(Drop)]
-pub enum Taken {
+pub enum Asked {
     /// Nothing.
     Nothing,
-    /// An order, for the customer of this name.
-    Order(NewOrder, Name),
-    /// What is the service's own to do.
-    Act(Act),
+    /// A request was refused so: the log tells it.
+    Refused(RequestRefusal),
+    /// An order for the hub was taken, under this number and on these terms: the log tells who gave
+    /// it.
+    Given(u64, Terms),
+    /// This is to be done, as it was ordered.
+    Act(Ticket, Act),
+    /// Tables are to be read, as this orders it.
+    Tables(Ticket),
 }

@@ -14,8 +14,8 @@ mod situation;
 mod talk;
 mod visitor;
 
-pub use act::{Act, Taken};
+pub use act::{Act, Asked};
 pub use console::Console;
-pub use order_book::REMEMBERED;
+pub use order_book::{REMEMBERED, WaitingOrder};
 pub use situation::Situation;
-pub use visitor::{SEATS, SILENCE};
+pub use visitor::{PATIENCE, SEATS};

@@ -1,39 +1,47 @@
 //! The orders that were taken.
 
-ghost use Rattle.std.specs.Prelude.{◌≡◌, ◌↔◌, ◌≤◌, [], ◌∷◌, ◌++◌, length, map, vec_capacity, IfOk, IsTrue, IsSome};
-ghost use Rattle.njh_console.specs.Orders.{no_orders, remembered, waits, with_last, with_order, with_order_given};
-ghost use Rattle.njh_console.specs.Orders.{IsOrderDone, IsOutcomeOf};
+ghost use Rattle.std.specs.Prelude.{◌≡◌, ◌↔◌, map, IfOk, IsTrue, IsSome, None};
+ghost use Rattle.njh_console.specs.Acts.{asked_for};
+ghost use Rattle.njh_console.specs.Orders.{act_done, given_up, lapsed, no_orders, order_due, waiting_for, with_order};
+ghost use Rattle.njh_console.specs.Orders.{with_order_given, with_outcome, IsActed, IsActOutcome, IsOrderDone};
+ghost use Rattle.njh_console.specs.Orders.{IsOutcomeOf};
 
-use http_server::Log;
-use njh_answer::{OrderRecord, Outcome};
+use crate::act::{Act, Asked};
+use circular_buffer::HeapCircularBuffer;
+use njh_answer::{OrderRecord, Outcome, Ticket, Work, is_late};
 use njh_command::Replies;
-use njh_customer::GivenOrder;
-use njh_ebcdic::Name;
+use njh_customer::OrderText;
 use njh_hub::HubFault;
-use njh_request::Text;
 use njh_texts::MessageText;
 use njh_turns::NewOrder;
 use std::alloc::{AllocError, Global};
 use std::marker::Model;
 
 /// How many orders are remembered.
-pub const REMEMBERED: usize = 16;
+pub const REMEMBERED: usize = 64;
 
-/// The last orders, and the one that waits.
+/// An order that the hub is to be given.
+#[derive(Drop)]
+pub struct WaitingOrder {
+    /// As it was taken.
+    pub ticket: Ticket,
+    /// What the hub is given.
+    pub order: NewOrder,
+}
+
+/// The last orders, the one that waits, and the one that was given in this round.
 #[derive(Drop)]
 pub(crate) struct OrderBook {
     alloc: Global,
-    records: Vec<OrderRecord>,
+    records: HeapCircularBuffer<OrderRecord>,
     next: u64,
-    waiting: Option<NewOrder>,
-    /// The one that was given, which only proofs see.
-    given: Option<Log<u16, GivenOrder>>,
+    waiting: Option<WaitingOrder>,
+    given: Option<Ticket>,
 }
 
 impl Model for OrderBook {
-    ghost use Rattle.std.specs.Prelude.{◌≤◌, length, vec_capacity};
-    ghost use Rattle.std.specs.Option.{option_map};
-    ghost use Rattle.njh_console.specs.Orders.{noted_order, TakenOrders};
+    ghost use Rattle.std.specs.Prelude.{◌≡◌};
+    ghost use Rattle.njh_console.specs.Orders.{TakenOrders};
 
     ghost Value = { TakenOrders };
 
@@ -41,10 +49,10 @@ impl Model for OrderBook {
       records = book.records.items;
       next = book.next;
       waiting = book.waiting;
-      given = option_map (λ given. noted_order given.items) book.given;
+      given = book.given;
     } };
 
-    ghost invariant = { λ book. (length book.records.items ≤ 16) × (16 ≤ vec_capacity book.records) };
+    ghost invariant = { λ book. book.records.capacity ≡ 64 };
 }
 
 impl OrderBook {
@@ -54,7 +62,7 @@ impl OrderBook {
     {
         Ok(OrderBook {
             alloc,
-            records: Vec::with_capacity(alloc, REMEMBERED)?,
+            records: HeapCircularBuffer::with_capacity(alloc, REMEMBERED)?,
             next: 1,
             waiting: None,
             given: None,
@@ -62,8 +70,8 @@ impl OrderBook {
     }
 
     /// The orders that are remembered.
-    pub(crate) fn records(&self) -> &[OrderRecord]
-        ensures { result.now ≡ self.now.records }
+    pub(crate) fn records(&self) -> &HeapCircularBuffer<OrderRecord>
+        ensures { result.now.items ≡ self.now.records }
     {
         &self.records
     }
@@ -75,81 +83,114 @@ impl OrderBook {
         self.next
     }
 
-    /// Whether an order's outcome isn't known yet.
-    pub(crate) fn waits(&self) -> bool
-        ensures { result ≡ waits self.now }
-    {
-        self.waiting.is_some() || self.given.is_some()
-    }
-
-    /// Whether an order was taken that hasn't been given.
+    /// Whether an order was taken that wasn't carried out.
     pub(crate) fn has_order(&self) -> bool
         ensures { IsTrue result ↔ IsSome self.now.waiting }
     {
         self.waiting.is_some()
     }
 
-    /// Takes an order under the next number; the oldest is forgotten where there are too many.
-    pub(crate) fn take(&mut self, order: NewOrder, customer: Name)
-        ensures { self.new ≡ with_order order customer self.old }
+    /// Takes an order under the next number. What is left to the service of it is the answer.
+    pub(crate) fn take(&mut self, ticket: Ticket, work: Work) -> Asked
+        ensures orders { self.new ≡ with_order ticket work self.old }
+        ensures asked { result ≡ asked_for ticket work }
     {
-        let taken = OrderRecord {
-            number: self.next,
-            customer,
-            outcome: Outcome::Waits,
-        };
-        add_order(&mut self.records, taken);
         self.next = self.next.saturating_add(1);
-        self.waiting = Some(order);
+        match work {
+            Work::Customer(customer, order) => {
+                let order = NewOrder { customer, order };
+                let given = Asked::Given(ticket.number, ticket.terms);
+                self.waiting = Some(WaitingOrder { ticket, order });
+                given
+            }
+            Work::Line(line, wish) => Asked::Act(ticket, Act::Line(line, wish)),
+            Work::Stop(moment) => Asked::Act(ticket, Act::Stop(moment)),
+            Work::Tables => Asked::Tables(ticket),
+        }
     }
 
-    /// The order that waits, once.
-    pub(crate) fn order(&mut self) -> Option<NewOrder>
-        ensures order { result ≡ self.old.waiting }
-        ensures given { self.new ≡ with_order_given self.old }
+    /// Remembers what came of an order; the oldest is forgotten where there are too many.
+    pub(crate) fn remember(&mut self, ticket: Ticket, outcome: Outcome)
+        ensures { self.new ≡ with_outcome ticket outcome self.old }
     {
-        let order = self.waiting.take()?;
-        self.given = Some(Log::new().and(&order.customer, &order.order));
+        let oldest = self.records.push_back(OrderRecord { ticket, outcome });
+        drop(oldest);
+    }
+
+    /// The order that waits isn't carried out, since who gave it has gone.
+    pub(crate) fn give_up(&mut self)
+        ensures { self.new ≡ given_up self.old }
+    {
+        if let Some(waiting) = self.waiting.take() {
+            self.remember(waiting.ticket, Outcome::GiverGone);
+        }
+    }
+
+    /// The order that waits, once, in this second; none if it is too late for it.
+    pub(crate) fn order(&mut self, now: u64) -> Option<NewOrder>
+        ensures order { result ≡ order_due now self.old }
+        ensures given { self.new ≡ with_order_given now self.old }
+    {
+        self.given = None;
+        let WaitingOrder { ticket, order } = self.waiting.take()?;
+        if is_late(now, &ticket.terms) {
+            self.remember(ticket, Outcome::TooLate);
+            return None;
+        }
+        self.given = Some(ticket);
         Some(order)
     }
 
     /// Notes what came of the order that was given.
     pub(crate) fn order_done(&mut self, answer: Result<(), HubFault>, replies: &Replies)
-        ensures { IsOrderDone answer replies.now self.old self.new }
+        ensures done { IsOrderDone answer replies.now self.old self.new }
+        ensures given { self.new.given ≡ None }
+        ensures waiting { self.new.waiting ≡ self.old.waiting }
     {
-        if self.given.is_none() {
-            return;
+        if let Some(ticket) = self.given.take() {
+            let outcome = outcome_of(self.alloc, answer, replies);
+            self.remember(ticket, outcome);
         }
-        self.given = None;
-        let outcome = outcome_of(self.alloc, answer, replies);
-        set_last(&mut self.records, outcome);
+    }
+
+    /// What the service is to do itself, if who ordered it hasn't gone and it isn't too late: it is
+    /// remembered as done then.
+    pub(crate) fn act(
+        &mut self,
+        is_gone: bool,
+        is_late: bool,
+        ticket: Ticket,
+        act: Act,
+    ) -> Option<Act>
+        ensures act { result ≡ act_done is_gone is_late act }
+        ensures acted { IsActed is_gone is_late ticket self.old self.new }
+    {
+        let outcome = act_outcome(self.alloc, is_gone, is_late);
+        self.remember(ticket, outcome);
+        if is_gone || is_late { None } else { Some(act) }
     }
 }
 
-/// Adds an order; the oldest is forgotten where there are too many.
-#[tactic(auto, using(crate::proofs::OrderLaws::oldest_goes, crate::proofs::OrderLaws::none_goes))]
-fn add_order(records: &mut Vec<OrderRecord>, order: OrderRecord)
-    requires few { length records.old.items ≤ 16 }
-    requires room { 16 ≤ vec_capacity records.old }
-    ensures records { records.new.items ≡ remembered (records.old.items ++ order ∷ []) }
-    ensures still_few { length records.new.items ≤ 16 }
-    ensures capacity { vec_capacity records.new ≡ vec_capacity records.old }
+/// What comes of an order for which the service was to read tables, if they aren't read: who gave it
+/// has gone, or it is too late.
+pub(crate) fn lapsed(is_gone: bool, is_late: bool) -> Option<Outcome>
+    ensures { result ≡ lapsed is_gone is_late }
 {
-    if records.len() >= REMEMBERED {
-        drop(records.remove(0));
+    match (is_gone, is_late) {
+        (true, _) => Some(Outcome::GiverGone),
+        (false, true) => Some(Outcome::TooLate),
+        (false, false) => None,
     }
-    records.push_reserved(order);
 }
 
-/// The last order has this outcome.
-fn set_last(records: &mut Vec<OrderRecord>, outcome: Outcome)
-    ensures records { records.new.items ≡ with_last outcome records.old.items }
-    ensures many { length records.new.items ≡ length records.old.items }
-    ensures capacity { vec_capacity records.new ≡ vec_capacity records.old }
+/// What comes of what the service does itself.
+fn act_outcome(alloc: Global, is_gone: bool, is_late: bool) -> Outcome
+    ensures { IsActOutcome is_gone is_late result }
 {
-    let count = records.len();
-    if count > 0 {
-        records[count - 1].outcome = outcome;
+    match (is_gone, is_late) {
+        (true, _) => Outcome::GiverGone,
+        (false, true) => Outcome::TooLate,
+        (false, false) => Outcome::Done(Vec::new(alloc)),
     }
 }
 
@@ -168,12 +209,12 @@ fn outcome_of(alloc: Global, answer: Result<(), HubFault>, replies: &Replies) ->
 }
 
 /// Copies of texts. Out of memory is the only refusal.
-fn texts_of(alloc: Global, texts: &[MessageText]) -> Result<Vec<Text>, AllocError>
+fn texts_of(alloc: Global, texts: &[MessageText]) -> Result<Vec<OrderText>, AllocError>
     ensures { IfOk result (λ copies. copies.items ≡ map (λ t. t.items) texts.now) }
 {
     let mut copies = Vec::new(alloc);
     for text in texts {
-        copies.push(Text::of_bytes(alloc, text.as_slice())?)?;
+        copies.push(OrderText::of(alloc, text.as_slice())?)?;
     }
     Ok(copies)
 }

@@ -2,6 +2,7 @@
 
 ghost use Rattle.std.specs.Prelude.{◌≡◌};
 
+use circular_buffer::HeapCircularBuffer;
 use njh_answer::{LineView, OrderRecord, ServiceView, Views};
 use njh_arrivals::Arrivals;
 use njh_hub::Hub;
@@ -64,14 +65,25 @@ impl<'a> Situation<'a> {
         self.tables
     }
 
+    /// Since when the service runs.
+    pub(crate) fn since(&self) -> u64
+        ensures { result ≡ self.now.service.since }
+    {
+        self.service.since
+    }
+
     /// The same, with the orders that are remembered and the number of the next one.
-    pub(crate) fn with_orders(&self, orders: &'a [OrderRecord], next: u64) -> Views<'a>
+    pub(crate) fn with_orders(
+        &self,
+        orders: &'a HeapCircularBuffer<OrderRecord>,
+        next: u64,
+    ) -> Views<'a>
         ensures parts { result.hub.now ≡ self.now.parts }
         ensures tables { result.tables.now ≡ self.now.tables }
         ensures service { result.service.now ≡ self.now.service }
         ensures lines { result.lines.now ≡ self.now.lines }
         ensures arrivals { result.arrivals.now ≡ self.now.arrivals }
-        ensures orders { result.orders.now ≡ orders.now }
+        ensures orders { result.orders.now.items ≡ orders.now.items }
         ensures next { result.next ≡ next }
     {
         Views {

@@ -1,5 +1,5 @@
 -- An answer as it is written.
-use Rattle.std.specs.Prelude.{◌≡◌, ◌≤◌, length, string_bytes}
+use Rattle.std.specs.Prelude.{◌≡◌, ℕ, ◌≤◌, length, string_bytes}
 use Rattle.njh_answer.specs.Answers.{Told}
 use Rattle.njh_console.specs.Rounds.{IsTextOf, IsToldFor}
 use Rattle.njh_console.specs.declared.page.Page.{Page}
@@ -12,5 +12,5 @@ pub record IsPageOf (t : Told) (page : Page) : Type 0 where
   pub deed_is : page.deed ≡ t.deed
 
 -- of what is told in place of an answer
-abbrev pub IsPageFor : Told → Page → Type 0
-IsPageFor whole page = (t : Told) × IsToldFor whole t × IsPageOf t page
+abbrev pub IsPageFor : ℕ → Told → Page → Type 0
+IsPageFor since whole page = (t : Told) × IsToldFor since whole t × IsPageOf t page

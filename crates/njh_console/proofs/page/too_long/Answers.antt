@@ -11,11 +11,11 @@ pub returns : goal.returns
 returns c =
     let told = c.in_ok-status.ensures in
     let text = string_bytes c.in_ok-text.text in
-    let written : IsTextOf (refusal_data TooLong) text =
+    let written : IsTextOf (refusal_data c.args.since TooLong) text =
     subst (λ (json : Data). IsTextOf json text) (ap (λ (t : Told). t.json) told)
     (c.in_ok-text.ensures.order, c.in_ok-text.ensures.text) in record {
       status_is = ap (λ (t : Told). t.status) told;
       text_is = written;
-      text_fits = too_long_fits text written;
+      text_fits = too_long_fits c.args.since text c.ranges.since.fits written;
       deed_is = ap (λ (t : Told). t.deed) told;
     }

@@ -5,13 +5,13 @@ use Rattle.njh_console.proofs.queue.receive_all.Goals as goal
 
 pub loop-place-init : goal.loop-place-init
 loop-place-init g c = record {
-  to = each_to_none (IsReadFrom {V = g.row.V.Denot} g.V.Read.remaining c.args.now) c.args.seats.now.items (nothing_came {V = g.row.V.Denot} g.V.Read.remaining c.args.now);
+  to = each_to_none (IsReadFrom {V = g.row.V.Denot} g.V.Read.remaining) c.args.seats.now.items (nothing_came {V = g.row.V.Denot} g.V.Read.remaining);
   capacity = refl;
 }
 
 pub loop-place-preserved : goal.loop-place-preserved
 loop-place-preserved g c = record {
-  to = each_to_more (IsReadFrom {V = g.row.V.Denot} g.V.Read.remaining c.args.now) c.loop-place.place c.args.seats.now.items
+  to = each_to_more (IsReadFrom {V = g.row.V.Denot} g.V.Read.remaining) c.loop-place.place c.args.seats.now.items
       c.loop-place.seats.items c.index_mut.result.now c.receive.new.self (search rules) c.index_mut.ensures.value
       c.receive.ensures c.loop-place.invariant.to;
   capacity = search rules;

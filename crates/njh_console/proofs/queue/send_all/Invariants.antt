@@ -6,6 +6,6 @@ use Rattle.njh_console.proofs.queue.send_all.Given as goal
 -- those so far are done
 abbrev pub invariant-loop-place : goal.invariant-loop-place
 invariant-loop-place g l = record {
-  to : EachTo (IsSentTo l.fn.now) l.place l.fn.seats.items l.seats.items;
+  to : EachTo (IsSentTo {V = g.row.V.Denot}) l.place l.fn.seats.items l.seats.items;
   capacity : vec_capacity l.seats ≡ vec_capacity l.fn.seats;
 }
