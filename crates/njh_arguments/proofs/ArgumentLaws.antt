@@ -21,7 +21,8 @@ use Rattle.njh_arguments.specs.declared.serve_options.Unasked.TheVariants.{Missi
 use Rattle.njh_arguments.specs.declared.serve_options.Unasked.TheVariants.{Unclear}
 use Rattle.njh_arguments.specs.Arguments.{AreUnclear, AsksFor, AsksIn, HasNoAddress, HasNoCommand, HasNoFormat}
 use Rattle.njh_arguments.specs.Arguments.{HasNothing, IsUnasked}
-use Rattle.njh_arguments.specs.Commands.{CommandView, Given, command_asked, command_in, given_in, given_of, is_set_in}
+use Rattle.njh_arguments.specs.Choices.{Given, given_of}
+use Rattle.njh_arguments.specs.Commands.{CommandView, command_asked, command_in, given_in, is_set_in}
 use Rattle.njh_arguments.specs.declared.console_words.CommandOptions.{CommandOptions}
 use Rattle.njh_arguments.specs.Arguments.{IsTarget, IsUnaskedBy, IsUnclear, PrintsNothing, is_given}
 use Rattle.njh_arguments.specs.Arguments.{program_app}
@@ -124,19 +125,44 @@ all_values-rows m id =
     at_values (find (λ e. bytes_eq e.0.now id) entries) (λ e. e.1) raw_values row_of (λ e. refl)
     ∙ ap (option_map (λ r. r.values)) (sym (find-map row_of (λ r. bytes_eq r.id id) entries))
 
-given_fields : {owner own node at state so : Option Text} {when_idle idle : Bool} → owner ≡ own → node ≡ at
-    → state ≡ so → when_idle ≡ idle
-    → ◌≡◌ {A = Given} (record { owner = owner; node = node; state = state; when_idle = when_idle })
-    (record { owner = own; node = at; state = so; when_idle = idle })
-given_fields owner node state idle = rw (owner, node, state, idle) refl
+given_fields : {owner own node at state so kind of older age : Option Text}
+    {when_idle idle dry_run dry quiet still : Bool} → owner ≡ own → node ≡ at → state ≡ so → kind ≡ of → older ≡ age
+    → when_idle ≡ idle → dry_run ≡ dry → quiet ≡ still
+    → ◌≡◌ {A = Given} (record {
+      owner = owner;
+      node = node;
+      state = state;
+      kind = kind;
+      older = older;
+      when_idle = when_idle;
+      dry_run = dry_run;
+      quiet = quiet;
+    })
+    (record {
+      owner = own;
+      node = at;
+      state = so;
+      kind = of;
+      older = age;
+      when_idle = idle;
+      dry_run = dry;
+      quiet = still;
+    })
+given_fields owner node state kind older idle dry quiet =
+    rw (owner, node, state, kind, older, idle, dry, quiet) refl
 
 -- the options beside a command, by the rows
 pub given_is : (given : CommandOptions) (rows : List Row)
     → option_map (λ text. text.now) given.owner ≡ first_of (codes "owner") rows
     → option_map (λ text. text.now) given.node ≡ first_of (codes "node") rows
     → option_map (λ text. text.now) given.state ≡ first_of (codes "state") rows
-    → given.when_idle ≡ is_set_in (codes "when-idle") rows → given_of given ≡ given_in rows
-given_is given rows owner node state idle = given_fields owner node state idle
+    → option_map (λ text. text.now) given.kind ≡ first_of (codes "kind") rows
+    → option_map (λ text. text.now) given.older ≡ first_of (codes "older") rows
+    → given.when_idle ≡ is_set_in (codes "when-idle") rows
+    → given.dry_run ≡ is_set_in (codes "dry-run") rows
+    → given.quiet ≡ is_set_in (codes "quiet") rows → given_of given ≡ given_in rows
+given_is given rows owner node state kind older idle dry quiet =
+    given_fields owner node state kind older idle dry quiet
 
 -- the command that rows are, by its words and the options beside them
 pub command_is : (rows : List Row) (words : List Text) (given : Given) (found : Option CommandView)

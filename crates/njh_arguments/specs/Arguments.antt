@@ -151,10 +151,7 @@ compact_rule = record (new_rule (codes "compact")) { long = Some (codes "compact
 abbrev pub files_app : App
 files_app = with_rule (with_rule printing_app into_rule) compact_rule
 
--- `ctl`, and its options: a console, which it must have, the flag `--json`, and what stands beside a command
-abbrev pub wanted_console_rule : Rule
-wanted_console_rule = record console_rule { required = true }
-
+-- `ctl`, and its options: a console, the flag `--json`, and what stands beside a command
 abbrev pub owner_rule : Rule
 owner_rule = record (new_rule (codes "owner")) { long = Some (codes "owner"); value_names = 1; action = Some Set }
 
@@ -164,12 +161,18 @@ node_rule = record (new_rule (codes "node")) { long = Some (codes "node"); value
 abbrev pub state_rule : Rule
 state_rule = record (new_rule (codes "state")) { long = Some (codes "state"); value_names = 1; action = Some Set }
 
+abbrev pub kind_rule : Rule
+kind_rule = record (new_rule (codes "kind")) { long = Some (codes "kind"); value_names = 1; action = Some Set }
+
+abbrev pub older_rule : Rule
+older_rule = record (new_rule (codes "older")) { long = Some (codes "older"); value_names = 1; action = Some Set }
+
 -- the words of a command
 abbrev pub command_rule : Rule
 command_rule = record (new_rule (codes "command")) { value_names = 1; action = Some Append; required = true }
 
 abbrev pub connecting_app : App
-connecting_app = with_rule (with_rule (new_app (codes "ctl")) wanted_console_rule) (flag_rule (codes "json"))
+connecting_app = with_rule (with_rule (new_app (codes "ctl")) console_rule) (flag_rule (codes "json"))
 
 abbrev pub owning_app : App
 owning_app = with_rule connecting_app owner_rule
@@ -177,8 +180,14 @@ owning_app = with_rule connecting_app owner_rule
 abbrev pub filtering_app : App
 filtering_app = with_rule (with_rule owning_app node_rule) state_rule
 
+abbrev pub choosing_app : App
+choosing_app = with_rule (with_rule filtering_app kind_rule) older_rule
+
+abbrev pub flagged_app : App
+flagged_app = with_rule (with_rule choosing_app (flag_rule (codes "dry-run"))) (flag_rule (codes "quiet"))
+
 abbrev pub ctl_app : App
-ctl_app = with_rule (with_rule filtering_app (flag_rule (codes "when-idle"))) command_rule
+ctl_app = with_rule (with_rule flagged_app (flag_rule (codes "when-idle"))) command_rule
 
 -- a program with a version, whose first word is a subcommand
 abbrev pub bare_app : App
@@ -286,7 +295,7 @@ AsksFor named (Serve tables turns listen strict quiet spool console json) = (nam
     × (first_of (codes "console") named.1 ≡ option_map (λ s. s.now) console)
     × (is_json_by (first_of (codes "log") named.1) ≡ Some json)
 AsksFor named (Control console json command) = (named.0 ≡ codes "ctl")
-    × (first_of (codes "console") named.1 ≡ Some console.now)
+    × (first_of (codes "console") named.1 ≡ option_map (λ s. s.now) console)
     × IsFlag (codes "json") named.1 json
     × (command_asked named.1 ≡ Some (view_of command))
 

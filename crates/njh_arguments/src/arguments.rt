@@ -12,7 +12,7 @@ ghost use Rattle.njh_arguments.specs.Arguments.{program_app, replaying_app, serv
 
 use crate::check_options::{check_command, checked_in};
 use crate::console_command::ConsoleCommand;
-use crate::ctl_options::{controlled_in, ctl_command, usage_of};
+use crate::ctl_options::{controlled_in, ctl_command, no_command};
 use crate::decode_options::{decode_command, decoded_in};
 use crate::encode_options::encode_command;
 use crate::files_options::{files_command, files_in};
@@ -75,8 +75,8 @@ pub enum Request<'a> {
     },
     /// A command to a hub that runs.
     Control {
-        /// Where its console is.
-        console: &'a str,
+        /// Where its console is, if that is said.
+        console: Option<&'a str>,
         /// To print the answers as they came.
         json: bool,
         /// The command.
@@ -225,7 +225,7 @@ fn refusal_of(
         ),
         Unasked::NoAddress(text) => no_address(alloc, program, text),
         Unasked::NoFormat(text) => no_format(alloc, program, text),
-        Unasked::NoCommand(word) => program.error(ErrorKind::InvalidSubcommand, usage_of(word)),
+        Unasked::NoCommand(word) => no_command(alloc, word),
         Unasked::Unclear => program.error(
             ErrorKind::ArgumentConflict,
             "to copy files: --customer NAME --into FILE, or --compact NEW, without --export, \

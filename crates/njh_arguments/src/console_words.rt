@@ -1,12 +1,14 @@
 //! The words of an operator's command.
 
 ghost use Rattle.std.specs.Prelude.{◌≡◌, is_some, map, not, option_map, Some};
-ghost use Rattle.njh_arguments.specs.Commands.{changed, command_alone, command_in, command_of_one, command_of_two};
-ghost use Rattle.njh_arguments.specs.Commands.{given_of, is_filter, is_owned, is_plain, is_timed, listed, owner_by};
-ghost use Rattle.njh_arguments.specs.Commands.{owner_of_text, plain, rerouted, shut_down, state_by, state_of_text, stopped};
-ghost use Rattle.njh_arguments.specs.Commands.{told, view_of, viewed_owner};
+ghost use Rattle.njh_arguments.specs.Choices.{given_of};
+ghost use Rattle.njh_arguments.specs.Commands.{asked, change_of_word, change_view, changed, changed_many, command_alone};
+ghost use Rattle.njh_arguments.specs.Commands.{command_in, command_of_one, command_of_three, command_of_two, has_choice};
+ghost use Rattle.njh_arguments.specs.Commands.{has_filter, has_flag, is_asked, is_many, is_owned, is_plain, is_timed};
+ghost use Rattle.njh_arguments.specs.Commands.{listed, plain, shut_down, stopped, told, view_of};
 
-use crate::console_command::{Change, ConsoleCommand, FileState, Owner};
+use crate::choices::{choice_by, owner_by};
+use crate::console_command::{Change, ConsoleCommand, Owner};
 
 /// What stands beside the words of a command.
 #[derive(Clone, Copy)]
@@ -17,8 +19,16 @@ pub(crate) struct CommandOptions<'a> {
     pub(crate) node: Option<&'a str>,
     /// The text of `--state`.
     pub(crate) state: Option<&'a str>,
+    /// The text of `--kind`.
+    pub(crate) kind: Option<&'a str>,
+    /// The text of `--older`.
+    pub(crate) older: Option<&'a str>,
     /// Whether `--when-idle` is set.
     pub(crate) when_idle: bool,
+    /// Whether `--dry-run` is set.
+    pub(crate) dry_run: bool,
+    /// Whether `--quiet` is set.
+    pub(crate) quiet: bool,
 }
 
 /// The command that words are, with the options beside them.
@@ -31,8 +41,8 @@ pub(crate) fn command_in<'a>(
     match words {
         [word] => command_alone(word, given),
         [word, name] => command_of_one(word, name, given),
-        [word, customer, file] => command_of_two(word, customer, file, given),
-        [word, customer, file, node] => rerouted(word, customer, file, node, given),
+        [word, customer, name] => command_of_two(word, customer, name, given),
+        [word, customer, file, node] => command_of_three(word, customer, file, node, given),
         [word, customer, node, user, text] => {
             told(word, customer, Owner { node, user }, text, given)
         }
@@ -45,15 +55,17 @@ fn command_alone<'a>(word: &str, given: CommandOptions<'a>) -> Option<ConsoleCom
     ensures { option_map view_of result ≡ command_alone word.now (given_of given.entry) }
 {
     if word == "status" {
-        plain(ConsoleCommand::Status, given)
+        asked(given)
     } else if word == "customers" {
         plain(ConsoleCommand::Customers, given)
     } else if word == "lines" {
-        plain(ConsoleCommand::Lines { customer: None }, given)
+        plain(ConsoleCommand::Lines { name: None }, given)
     } else if word == "files" {
         listed(None, given)
     } else if word == "shutdown" {
         shut_down(given)
+    } else if word == "reload" {
+        plain(ConsoleCommand::Reload, given)
     } else {
         None
     }
@@ -68,34 +80,67 @@ fn command_of_one<'a>(
     ensures { option_map view_of result ≡ command_of_one word.now name.now (given_of given.entry) }
 {
     if word == "lines" {
-        let customer = Some(name);
-        plain(ConsoleCommand::Lines { customer }, given)
+        let name = Some(name);
+        plain(ConsoleCommand::Lines { name }, given)
     } else if word == "files" {
         listed(Some(name), given)
     } else if word == "stop" {
         stopped(name, given)
     } else if word == "start" {
         plain(ConsoleCommand::Start { line: name }, given)
+    } else if word == "order" {
+        plain(ConsoleCommand::Outcome { order: name }, given)
+    } else if word == "diff" {
+        plain(ConsoleCommand::Diff { file: name }, given)
+    } else {
+        changed_many(change_of_word(word)?, name, given)
+    }
+}
+
+/// The command that a word with two names is.
+fn command_of_two<'a>(
+    word: &str,
+    customer: &'a str,
+    name: &'a str,
+    given: CommandOptions<'a>,
+) -> Option<ConsoleCommand<'a>>
+    ensures { option_map view_of result ≡ command_of_two word.now customer.now name.now (given_of given.entry) }
+{
+    if word == "reroute" {
+        changed_many(Change::Reroute(name), customer, given)
+    } else {
+        changed(change_of_word(word)?, customer, name, given)
+    }
+}
+
+/// The command that a word with three names is.
+fn command_of_three<'a>(
+    word: &str,
+    customer: &'a str,
+    file: &'a str,
+    node: &'a str,
+    given: CommandOptions<'a>,
+) -> Option<ConsoleCommand<'a>>
+    ensures { option_map view_of result
+        ≡ command_of_three word.now customer.now file.now node.now (given_of given.entry) }
+{
+    if word == "reroute" {
+        changed(Change::Reroute(node), customer, file, given)
     } else {
         None
     }
 }
 
-/// The command that a word with a customer and a file is.
-fn command_of_two<'a>(
-    word: &str,
-    customer: &'a str,
-    file: &'a str,
-    given: CommandOptions<'a>,
-) -> Option<ConsoleCommand<'a>>
-    ensures { option_map view_of result ≡ command_of_two word.now customer.now file.now (given_of given.entry) }
+/// The change that a word is.
+fn change_of_word<'a>(word: &str) -> Option<Change<'a>>
+    ensures { option_map change_view result ≡ change_of_word word.now }
 {
     if word == "hold" {
-        changed(Change::Hold, customer, file, given)
+        Some(Change::Hold)
     } else if word == "release" {
-        changed(Change::Release, customer, file, given)
+        Some(Change::Release)
     } else if word == "cancel" {
-        changed(Change::Cancel, customer, file, given)
+        Some(Change::Cancel)
     } else {
         None
     }
@@ -108,70 +153,71 @@ fn plain<'a>(command: ConsoleCommand<'a>, given: CommandOptions<'a>) -> Option<C
     if is_plain(given) { Some(command) } else { None }
 }
 
+/// How the hub is.
+fn asked<'a>(given: CommandOptions<'a>) -> Option<ConsoleCommand<'a>>
+    ensures { option_map view_of result ≡ asked (given_of given.entry) }
+{
+    if is_asked(given) {
+        let quiet = given.quiet;
+        Some(ConsoleCommand::Status { quiet })
+    } else {
+        None
+    }
+}
+
 /// A list of files.
 fn listed<'a>(customer: Option<&'a str>, given: CommandOptions<'a>) -> Option<ConsoleCommand<'a>>
     ensures { option_map view_of result
         ≡ listed (option_map (λ name. name.now) customer.entry) (given_of given.entry) }
 {
-    if !is_filter(given) {
+    if has_flag(given) {
         return None;
     }
-    match state_by(given.state) {
-        Some(state) => Some(ConsoleCommand::Files {
-            customer,
-            node: given.node,
-            state,
-        }),
-        None => None,
-    }
+    let choice = choice_by(given)?;
+    Some(ConsoleCommand::Files { customer, choice })
 }
 
-/// A change of files.
+/// A change of files of a name.
 fn changed<'a>(
-    change: Change,
+    change: Change<'a>,
     customer: &'a str,
     file: &'a str,
     given: CommandOptions<'a>,
 ) -> Option<ConsoleCommand<'a>>
-    ensures { option_map view_of result ≡ changed change customer.now file.now (given_of given.entry) }
+    ensures { option_map view_of result
+        ≡ changed (change_view change.entry) customer.now file.now (given_of given.entry) }
 {
     if !is_owned(given) {
         return None;
     }
-    match owner_by(given.owner) {
-        Some(owner) => Some(ConsoleCommand::Change {
-            change,
-            customer,
-            file,
-            owner,
-        }),
-        None => None,
-    }
+    let owner = owner_by(given.owner)?;
+    Some(ConsoleCommand::Change {
+        change,
+        customer,
+        file,
+        owner,
+    })
 }
 
-/// The other node of files.
-fn rerouted<'a>(
-    word: &str,
+/// A change of files that are chosen.
+fn changed_many<'a>(
+    change: Change<'a>,
     customer: &'a str,
-    file: &'a str,
-    node: &'a str,
     given: CommandOptions<'a>,
 ) -> Option<ConsoleCommand<'a>>
     ensures { option_map view_of result
-        ≡ rerouted word.now customer.now file.now node.now (given_of given.entry) }
+        ≡ changed_many (change_view change.entry) customer.now (given_of given.entry) }
 {
-    if word != "reroute" || !is_owned(given) {
+    if !is_many(given) {
         return None;
     }
-    match owner_by(given.owner) {
-        Some(owner) => Some(ConsoleCommand::Reroute {
-            customer,
-            file,
-            node,
-            owner,
-        }),
-        None => None,
-    }
+    let choice = choice_by(given)?;
+    Some(ConsoleCommand::ChangeMany {
+        change,
+        customer,
+        choice,
+        dry_run: given.dry_run,
+    })
 }
 
 /// A message to a user.
@@ -225,89 +271,67 @@ fn shut_down<'a>(given: CommandOptions<'a>) -> Option<ConsoleCommand<'a>>
 fn is_plain(given: CommandOptions<'_>) -> bool
     ensures { result ≡ is_plain (given_of given.entry) }
 {
-    is_timed(given) && !given.when_idle
+    !has_choice(given) && !has_flag(given)
+}
+
+/// Whether at most `--quiet` stands beside the words.
+fn is_asked(given: CommandOptions<'_>) -> bool
+    ensures { result ≡ is_asked (given_of given.entry) }
+{
+    !has_choice(given) && !given.when_idle && !given.dry_run
 }
 
 /// Whether at most `--when-idle` stands beside the words.
 fn is_timed(given: CommandOptions<'_>) -> bool
     ensures { result ≡ is_timed (given_of given.entry) }
 {
-    is_absent(given.owner) && is_absent(given.node) && is_absent(given.state)
-}
-
-/// Whether at most `--node` and `--state` stand beside the words.
-fn is_filter(given: CommandOptions<'_>) -> bool
-    ensures { result ≡ is_filter (given_of given.entry) }
-{
-    is_absent(given.owner) && !given.when_idle
+    !has_choice(given) && !given.dry_run && !given.quiet
 }
 
 /// Whether at most `--owner` stands beside the words.
 fn is_owned(given: CommandOptions<'_>) -> bool
     ensures { result ≡ is_owned (given_of given.entry) }
 {
-    is_absent(given.node) && is_absent(given.state) && !given.when_idle
+    !has_filter(given) && !has_flag(given)
 }
 
-/// Whether an option isn't given.
-fn is_absent(text: Option<&str>) -> bool
-    ensures { result ≡ not (is_some (option_map (λ t. t.now) text.entry)) }
+/// Whether an option that chooses files stands beside the words, and at most `--dry-run` besides.
+fn is_many(given: CommandOptions<'_>) -> bool
+    ensures { result ≡ is_many (given_of given.entry) }
+{
+    has_choice(given) && !given.when_idle && !given.quiet
+}
+
+/// Whether an option that chooses files stands beside the words.
+fn has_choice(given: CommandOptions<'_>) -> bool
+    ensures { result ≡ has_choice (given_of given.entry) }
+{
+    is_present(given.owner) || has_filter(given)
+}
+
+/// Whether one does that is another than `--owner`.
+fn has_filter(given: CommandOptions<'_>) -> bool
+    ensures { result ≡ has_filter (given_of given.entry) }
+{
+    is_present(given.node)
+        || is_present(given.state)
+        || is_present(given.kind)
+        || is_present(given.older)
+}
+
+/// Whether a flag stands beside the words.
+fn has_flag(given: CommandOptions<'_>) -> bool
+    ensures { result ≡ has_flag (given_of given.entry) }
+{
+    given.when_idle || given.dry_run || given.quiet
+}
+
+/// Whether an option is given.
+fn is_present(text: Option<&str>) -> bool
+    ensures { result ≡ is_some (option_map (λ t. t.now) text.entry) }
 {
     match text {
-        Some(_) => false,
-        None => true,
-    }
-}
-
-/// The state that is named, if one is; none where what is named is no state.
-fn state_by(text: Option<&str>) -> Option<Option<FileState>>
-    ensures { result ≡ state_by (option_map (λ t. t.now) text.entry) }
-{
-    match text {
-        None => Some(None),
-        Some(text) => match state_of_text(text) {
-            Some(state) => Some(Some(state)),
-            None => None,
-        },
-    }
-}
-
-/// The state that a text is.
-fn state_of_text(text: &str) -> Option<FileState>
-    ensures { result ≡ state_of_text text.now }
-{
-    if text == "ready" {
-        Some(FileState::Ready)
-    } else if text == "held" {
-        Some(FileState::Held)
-    } else if text == "refused" {
-        Some(FileState::Refused)
-    } else if text == "sending" {
-        Some(FileState::Sending)
-    } else {
-        None
-    }
-}
-
-/// The owner who is named, if one is; none where what is named is no user.
-fn owner_by<'a>(text: Option<&'a str>) -> Option<Option<Owner<'a>>>
-    ensures { option_map viewed_owner result ≡ owner_by (option_map (λ t. t.now) text.entry) }
-{
-    match text {
-        None => Some(None),
-        Some(text) => match owner_of_text(text) {
-            Some(owner) => Some(Some(owner)),
-            None => None,
-        },
-    }
-}
-
-/// The user that a text with a dot is.
-fn owner_of_text<'a>(text: &'a str) -> Option<Owner<'a>>
-    ensures { viewed_owner result ≡ owner_of_text text.now }
-{
-    match text.split_once('.') {
-        Some((node, user)) => Some(Owner { node, user }),
-        None => None,
+        Some(_) => true,
+        None => false,
     }
 }

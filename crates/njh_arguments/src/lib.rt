@@ -3,6 +3,7 @@
 
 mod arguments;
 mod check_options;
+mod choices;
 mod console_command;
 mod console_words;
 mod ctl_options;
@@ -15,5 +16,5 @@ mod serve_options;
 mod shown;
 
 pub use arguments::{Request, Task, not_utf8, request_of};
-pub use console_command::{Change, ConsoleCommand, FileState, Owner};
+pub use console_command::{Change, Choice, ConsoleCommand, FileKind, FileState, Owner};
 pub use shown::{VERSION, is_shown};
