@@ -1,9 +1,16 @@
+mod AskLaws
 mod BodyText
+mod EntryLaws
+mod KeptLaws
+mod KeyLaws
 mod NameLaws
 mod Numerals
+mod OperatorLaws
+mod OrderLaws
 mod Paths
 mod ReadBack
 mod ReplyLaws
 mod RowLaws
 mod SessionLaws
+mod TalkLaws
 mod WrittenUpTo

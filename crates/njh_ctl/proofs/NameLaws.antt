@@ -1,12 +1,13 @@
--- Names that are asked for, one after another.
+-- What is gathered, and what is done for each name.
 use Rattle.std.proofs.Common.{◌≡◌, ◌++◌, ◌∷◌, ◌+◌, ◌<◌, List, [], ℕ, get_or, length, map, take, sym, ap, subst, ◌∙◌}
 use Rattle.std.proofs.Common.{append_assoc, append-nil}
 use Rattle.std.specs.Prelude.{String, string_bytes}
 use Rattle.std.specs.declared.alloc.Global.{Global}
 use Rattle.serde_json.specs.Data.{Data}
 use Rattle.njh_ctl.proofs.RowLaws.{map_take_more}
-use Rattle.njh_ctl.specs.Talks.{AddsEachName, AddsName, AreNames, ForEach, TalkView, each_goes_on, no_name}
-use Rattle.njh_ctl.specs.Talks.{one_name_more}
+use Rattle.njh_ctl.specs.Asked.{AddsEach, AddsOne, AreItems, no_item, one_item_more}
+use Rattle.njh_ctl.specs.Orders.{TalkView}
+use Rattle.njh_ctl.specs.Talks.{ForEach, each_goes_on}
 
 -- one name more
 pub each_more : (this : List ℕ → TalkView → TalkView → Type 0) (old mid new : TalkView) (names : List (String Global))
@@ -18,17 +19,17 @@ each_more this old mid new names i name within is so_far one =
     (sym (map_take_more string_bytes names i name within is))
     (each_goes_on (map string_bytes (take i names)) (string_bytes name) mid new so_far one)
 
--- no name so far
-pub names_none : (before : List (List ℕ)) → AddsEachName [] before before
-names_none before = record { more = []; names_are = no_name; names = sym (append-nil before) }
+-- nothing so far
+pub adds_none : {A : Type 0} (is : Data → A → Type 0) (before : List A) → AddsEach is [] before before
+adds_none is before = record { more = []; are = no_item; all = sym (append-nil before) }
 
--- one customer's name more
-pub names_more : (ds all : List Data) (d : Data) (before mid after : List (List ℕ)) → AddsEachName ds before mid
-    → AddsName d mid after → all ≡ ds ++ (d ∷ []) → AddsEachName all before after
-names_more ds all d before mid after so_far one is = record {
-  more = so_far.more ++ (one.name ∷ []);
-  names_are = subst (λ (list : List Data). AreNames list (so_far.more ++ (one.name ∷ []))) (sym is)
-      (one_name_more ds so_far.more d one.name so_far.names_are one.name_is);
-  names = one.names ∙ ap (λ (names : List (List ℕ)). names ++ (one.name ∷ [])) so_far.names
-      ∙ append_assoc before so_far.more (one.name ∷ []);
+-- one more
+pub adds_more : {A : Type 0} (is : Data → A → Type 0) (ds all : List Data) (d : Data) (before mid after : List A)
+    → AddsEach is ds before mid → AddsOne is d mid after → all ≡ ds ++ (d ∷ []) → AddsEach is all before after
+adds_more {A} is ds all d before mid after so_far one same = record {
+  more = so_far.more ++ (one.one ∷ []);
+  are = subst (λ (list : List Data). AreItems is list (so_far.more ++ (one.one ∷ []))) (sym same)
+      (one_item_more ds so_far.more d one.one so_far.are one.one_is);
+  all = one.all ∙ ap (λ (some : List A). some ++ (one.one ∷ [])) so_far.all
+      ∙ append_assoc before so_far.more (one.one ∷ []);
 }

@@ -53,9 +53,3 @@ number-decimal n place =
 -- and behind `from=`
 pub place-from_text : (n : ℕ) → is_place n ≡ true → place_in (Some (from_text n)) ≡ Some n
 place-from_text n place = number-decimal n place
-
--- its digits
-pub digits-decimal : (n : ℕ) → is_place n ≡ true → list_all (within 48 57) (decimal n) ≡ true
-digits-decimal n place =
-    let small : n < 10 ^ 18 = ltb-true n 1000000000000000000 place in
-    let fits : n < 2 ^ 64 = omega (arith, small) in digits_decimal own_digits n fits

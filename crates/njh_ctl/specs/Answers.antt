@@ -3,7 +3,7 @@ use Rattle.std.specs.Prelude.{◌≡◌, ℕ, List, codes, cond, Option, Some, N
 use Rattle.std.specs.Option.{option_map}
 use Rattle.std.specs.Str.{is_utf8}
 use Rattle.serde_json.specs.Data.{Data, Items, null, boolean, number, string, array, object}
-use Rattle.serde_json.specs.Find.{as_array, as_number, as_u64, get}
+use Rattle.serde_json.specs.Find.{as_array, as_number, as_str, as_u64, get}
 use Rattle.serde_json.specs.Read.{read}
 use Rattle.njh_ctl.specs.declared.fault.CtlFault.{CtlFault}
 use Rattle.njh_ctl.specs.declared.fault.CtlFault.TheVariants as fault
@@ -16,12 +16,11 @@ json_in bytes = cond (is_utf8 bytes) (read bytes) None
 abbrev pub IsNoValue : Option Data → CtlFault → Type 0
 IsNoValue o fault.NotUnderstood = o ≡ None
 IsNoValue o fault.Memory = Unit {0}
-IsNoValue o (fault.Refused sentence) = ⊥
-IsNoValue o fault.OrderWaits = ⊥
-IsNoValue o fault.BadName = ⊥
-IsNoValue o fault.Silent = ⊥
-IsNoValue o fault.Broken = ⊥
-IsNoValue o (fault.NoConsole why) = ⊥
+IsNoValue o other = ⊥
+
+-- the text that a member is
+abbrev pub string_in : List ℕ → Data → Option (List ℕ)
+string_in key d = option_and_then as_str (get key d)
 
 -- the number that a member is
 abbrev pub count_in : List ℕ → Data → Option ℕ

@@ -1,8 +1,8 @@
 -- How a question goes out by HTTP, and how what is answered is read.
-use Rattle.std.specs.Prelude.{◌≡◌, ℕ, ◌++◌, List, [], ◌∷◌, codes, drop, length, Option, Some, None, string_bytes}
+use Rattle.std.specs.Prelude.{◌≡◌, ◌⊎◌, ℕ, ◌++◌, List, [], ◌∷◌, codes, drop, length, Option, Some, None, string_bytes}
 use Rattle.std.specs.Option.{option_map}
 use Rattle.std.specs.Io.KnownBytes.{Appends, Consumes}
-use Rattle.http1.specs.Client.{ClientReads, after_end, after_request, planned_request, with_writing, writing}
+use Rattle.http1.specs.Client.{ClientReads, after_end, after_request, new_client, planned_request, with_writing, writing}
 use Rattle.http1.specs.Conn.{after_data, data_text, finish_text}
 use Rattle.http1.specs.Fields.{Header}
 use Rattle.http1.specs.declared.client.Client.{Client}
@@ -10,12 +10,13 @@ use Rattle.http1.specs.declared.conn.BodySize.{BodySize}
 use Rattle.http1.specs.declared.conn.BodySize.TheVariants.{Empty, Known}
 use Rattle.http1.specs.declared.conn.Event.{Event}
 use Rattle.http1.specs.declared.conn.Event.TheVariants as event
+use Rattle.http1.specs.declared.conn.Limits.{Limits}
 use Rattle.http1.specs.declared.conn.Progress.{Progress}
 use Rattle.httparse.specs.Spans.{span_bytes}
 use Rattle.httparse.specs.declared.spans.HeaderSpan.{HeaderSpan}
 use Rattle.httparse.specs.declared.spans.ResponseSpans.{ResponseSpans}
 use Rattle.percent_encoding.specs.Percent.{percent_decode}
-use Rattle.serde_json.specs.Data.{Data}
+use Rattle.json.specs.Json.{Json}
 use Rattle.njh_ctl.specs.Questions.{IsBody, Text, data_of, method_of, path_of, query_of}
 use Rattle.njh_ctl.specs.declared.question.Question.{Question}
 use Rattle.njh_ctl.specs.declared.request_text.RequestText.{RequestText}
@@ -30,7 +31,7 @@ pub record QuestionText : Type 0 where
   pub method : Text
   pub path : Text
   pub query : Option Text
-  pub content : Option Data
+  pub content : Option Json
 
 abbrev pub text_of : Question → QuestionText
 text_of q = record { method = method_of q; path = path_of q; query = query_of q; content = data_of q }
@@ -59,7 +60,7 @@ request_view r = record {
   method = r.method.now;
   path = string_bytes r.path;
   query = option_map string_bytes r.query;
-  body = string_bytes r.body;
+  body = r.body.items;
 }
 
 -- ---- bytes that go out
@@ -177,13 +178,32 @@ pub record Hears (old new : Link) (reply : ReplyView) : Type 0 where
   pub last : Takes before new so_far reply
   pub ends : IsEnd last.read.event
 
--- a question is sent, and its answer is read
-pub record IsHeard (old new : Link) (q : QuestionText) (reply : ReplyView) : Type 0 where
-  pub request : RequestView
-  pub puts : Puts q request
+-- a request is sent, and its answer is read
+pub record IsExchanged (old new : Link) (request : RequestView) (reply : ReplyView) : Type 0 where
   pub sent : Link
   pub sends : Sends old sent request
   pub hears : Hears sent new reply
+
+-- a connection on which nothing was sent or read yet
+pub record IsFresh (link : Link) : Type 0 where
+  pub limits : Limits
+  pub client : link.client ≡ new_client limits
+  pub unread : link.unread ≡ []
+
+-- on this connection, or on a fresh one, if those before ended
+abbrev pub GoesOn : Link → Link → Type 0
+GoesOn old mid = (mid ≡ old) ⊎ IsFresh mid
+
+pub record IsAnswered (old new : Link) (request : RequestView) (reply : ReplyView) : Type 0 where
+  pub mid : Link
+  pub goes_on : GoesOn old mid
+  pub exchanged : IsExchanged mid new request reply
+
+-- a question is asked, and its answer is heard
+pub record IsHeard (old new : Link) (q : QuestionText) (reply : ReplyView) : Type 0 where
+  pub request : RequestView
+  pub puts : Puts q request
+  pub answered : IsAnswered old new request reply
 
 -- ---- an answer while it is read
 

@@ -1,6 +1,13 @@
 pub mod Answers
+pub mod Asked
+pub mod Chosen
 pub mod Exchanges
+pub mod Faults
+pub mod Lists
+pub mod Many
+pub mod Orders
 pub mod Questions
 pub mod Shown
 pub mod ShownLines
 pub mod Talks
+pub mod Told

@@ -1,19 +1,14 @@
 -- What is told for people of customers, files, replies and the hub.
-use Rattle.std.specs.Prelude.{◌≡◌, ℕ, ◌++◌, ◌^◌, ◌-◌, ◌&&◌, Bool, true, false, List, [], ◌∷◌, codes, bytes_eq}
+use Rattle.std.specs.Prelude.{◌≡◌, ℕ, ◌++◌, ◌^◌, ◌-◌, false, List, [], ◌∷◌, codes}
 use Rattle.std.specs.Prelude.{Option, Some, None}
 use Rattle.std.specs.Prelude.{String, string_bytes}
-use Rattle.std.specs.Option.{option_map}
 use Rattle.std.specs.declared.alloc.Global.{Global}
 use Rattle.std.specs.Fmt.{decimal, format_spec, padded, padded_integral}
 use Rattle.serde_json.specs.Data.{Data}
 use Rattle.serde_json.specs.Find.{as_str, get}
 use Rattle.serde_json.specs.View.{items_of}
-use Rattle.njh_arguments.specs.declared.console_command.FileState.{FileState}
-use Rattle.njh_arguments.specs.declared.console_command.FileState.TheVariants as state
-use Rattle.njh_request.specs.Bodies.{string_in}
-use Rattle.njh_ctl.specs.Answers.{count_in, list_in}
+use Rattle.njh_ctl.specs.Answers.{count_in, list_in, string_in}
 use Rattle.njh_ctl.specs.Questions.{Text}
-use Rattle.njh_ctl.specs.declared.shown.Filter.{Filter}
 
 -- a text is put behind what there was
 abbrev pub Grows : Text → String Global → String Global → Type 0
@@ -50,7 +45,7 @@ pub record RowsOf (key : Text) (row : Data → Text → Type 0) (d : Data) (text
 -- ---- customers
 
 abbrev pub customers_head : Text
-customers_head = codes "CUSTOMER  QUOTA   USED  READY   HELD REFUSED SENDING ARRIVED\n"
+customers_head = codes "CUSTOMER  QUOTA   USED  READY   HELD REFUSED SENDING ARRIVED   MOST TURNEDAWAY OLDEST\n"
 
 -- how many files are in each state
 pub record IsTally (files : Data) (text : Text) : Type 0 where
@@ -65,12 +60,13 @@ pub record IsTally (files : Data) (text : Text) : Type 0 where
   pub text_is : text ≡ right 6 ready ++ (codes " " ++ (right 6 held ++ (codes " " ++ (right 7 refused
       ++ (codes " " ++ (right 7 sending ++ codes " "))))))
 
--- what a customer is called, may have and has
+-- what a customer is called, may have and has; what is told behind it of how many files it may have, of those that were
+-- refused and of its oldest may be anything
 abbrev pub quota_text : Text → ℕ → ℕ → Text
 quota_text name quota used = left 8 name ++ (codes " " ++ (right 6 quota ++ (codes " " ++ (right 6 used ++ codes " "))))
 
-abbrev pub arrived_text : ℕ → Text
-arrived_text arrived = right 7 arrived ++ newline
+abbrev pub arrived_text : ℕ → Text → Text
+arrived_text arrived limits = right 7 arrived ++ (limits ++ newline)
 
 pub record IsCustomerRow (d : Data) (text : Text) : Type 0 where
   pub name : Text
@@ -79,57 +75,20 @@ pub record IsCustomerRow (d : Data) (text : Text) : Type 0 where
   pub arrived : ℕ
   pub files : Data
   pub tally : Text
+  pub limits : Text
   pub name_is : string_in (codes "name") d ≡ Some name
   pub quota_is : count_in (codes "quota") d ≡ Some quota
   pub used_is : count_in (codes "blocks") d ≡ Some used
   pub arrived_is : count_in (codes "arrived") d ≡ Some arrived
   pub files_are : get (codes "files") d ≡ Some files
   pub tally_is : IsTally files tally
-  pub text_is : text ≡ quota_text name quota used ++ (tally ++ arrived_text arrived)
-
-abbrev pub AreCustomersShown : Data → Text → Type 0
-AreCustomersShown = RowsOf (codes "customers") IsCustomerRow
+  pub text_is : text ≡ quota_text name quota used ++ (tally ++ arrived_text arrived limits)
 
 -- ---- files
 
 abbrev pub files_head : Text
 files_head =
     codes "CUSTOMER FILE           KIND STATE    RECORDS BLOCKS SINCE                LINE     OWNER             FOR\n"
-
--- which files are looked for
-pub record Wanted : Type 0 where
-  pub node : Option Text
-  pub state : Option FileState
-
-abbrev pub wanted_by : Filter → Wanted
-wanted_by filter = record { node = option_map (λ node. node.now) filter.node; state = filter.state }
-
-abbrev pub state_text : FileState → Text
-state_text state.Ready = codes "READY"
-state_text state.Held = codes "HELD"
-state_text state.Refused = codes "REFUSED"
-state_text state.Sending = codes "SENDING"
-
-abbrev pub is_as_wanted : Text → Option Text → Bool
-is_as_wanted text None = true
-is_as_wanted text (Some wanted) = bytes_eq text wanted
-
--- a file's state and the node that it is for
-pub record IsKept (d : Data) (state node : Text) : Type 0 where
-  pub state_is : string_in (codes "state") d ≡ Some state
-  pub destination : Data
-  pub destination_is : get (codes "destination") d ≡ Some destination
-  pub node_is : string_in (codes "node") destination ≡ Some node
-
-abbrev pub is_wanted : Wanted → Text → Text → Bool
-is_wanted wanted state node = is_as_wanted node wanted.node && is_as_wanted state (option_map state_text wanted.state)
-
--- whether a file is looked for
-pub record LooksFor (wanted : Wanted) (d : Data) (is : Bool) : Type 0 where
-  pub state : Text
-  pub node : Text
-  pub kept : IsKept d state node
-  pub is_so : is ≡ is_wanted wanted state node
 
 -- a user at a node, or a node alone
 abbrev pub user_text : Text → Text → Text
@@ -196,19 +155,6 @@ pub record IsFileRow (customer : Text) (d : Data) (text : Text) : Type 0 where
   pub users_are : AreUsers owner destination users
   pub text_is : text ≡ file_text customer name kind state ++ (size_text records blocks ++ (way ++ users))
 
--- a row if the file is looked for, and else nothing
-abbrev pub RowWhere : Bool → Text → Data → Text → Type 0
-RowWhere true customer d text = IsFileRow customer d text
-RowWhere false customer d text = text ≡ []
-
-pub record IsFileTold (wanted : Wanted) (customer : Text) (d : Data) (text : Text) : Type 0 where
-  pub is : Bool
-  pub looked : LooksFor wanted d is
-  pub row : RowWhere is customer d text
-
-abbrev pub AreFilesShown : Wanted → Text → Data → Text → Type 0
-AreFilesShown wanted customer = RowsOf (codes "files") (IsFileTold wanted customer)
-
 -- ---- replies
 
 abbrev pub IsReply : Data → Text → Type 0
@@ -251,8 +197,10 @@ abbrev pub bytes_text : Option ℕ → Text
 bytes_text None = []
 bytes_text (Some bytes) = codes "spool file " ++ (decimal bytes ++ codes " bytes\n")
 
+-- what is wrong, and below it how grave it is and since when, which may be anything
 abbrev pub IsFault : Data → Text → Type 0
-IsFault d text = (fault : Text) × (as_str d ≡ Some fault) × (text ≡ codes "wrong: " ++ (fault ++ newline))
+IsFault d text = (fault : Text) × ((gravity : Text) × (as_str d ≡ Some fault)
+    × (text ≡ codes "wrong: " ++ (fault ++ (newline ++ gravity))))
 
 abbrev pub AreFaults : List Data → Text → Type 0
 AreFaults [] text = text ≡ codes "nothing is wrong\n"
@@ -261,17 +209,20 @@ AreFaults (d ∷ ds) text = Rows IsFault (d ∷ ds) text
 abbrev pub version_text : Text → Text → Text
 version_text version since = codes "njehub " ++ (version ++ (codes ", since " ++ (since ++ newline)))
 
+-- what is told of its room and of the time, and of what the operator wants so, may be anything
 pub record IsStatusShown (d : Data) (text : Text) : Type 0 where
   pub version : Text
   pub since : ℕ
   pub since_text : Text
   pub sums : Text
+  pub room : Text
   pub faults : List Data
   pub faults_text : Text
+  pub intended : Text
   pub version_is : string_in (codes "version") d ≡ Some version
   pub since_is : count_in (codes "since") d ≡ Some since
   pub sums_are : IsSums d sums
   pub faults_are : list_in (codes "faults") d ≡ Some (items_of faults)
   pub faults_text_is : AreFaults faults faults_text
   pub text_is : text ≡ version_text version since_text
-      ++ (sums ++ (bytes_text (count_in (codes "file_bytes") d) ++ faults_text))
+      ++ (sums ++ (bytes_text (count_in (codes "file_bytes") d) ++ (room ++ (faults_text ++ intended))))

@@ -3,8 +3,7 @@ use Rattle.std.specs.Prelude.{◌≡◌, ℕ, ◌++◌, Bool, true, false, codes
 use Rattle.std.specs.Fmt.{decimal}
 use Rattle.serde_json.specs.Data.{Data}
 use Rattle.serde_json.specs.Find.{as_null, as_str, get}
-use Rattle.njh_request.specs.Bodies.{string_in}
-use Rattle.njh_ctl.specs.Answers.{count_in}
+use Rattle.njh_ctl.specs.Answers.{count_in, string_in}
 use Rattle.njh_ctl.specs.Questions.{Text}
 use Rattle.njh_ctl.specs.Shown.{RowsOf, left, newline, text_or}
 
@@ -103,6 +102,3 @@ pub record IsLineRow (customer : Text) (d : Data) (text : Text) : Type 0 where
 -- a text, whichever it is
 abbrev pub IsAny : Text → Type 0
 IsAny text = Unit {0}
-
-abbrev pub AreLinesShown : Text → Data → Text → Type 0
-AreLinesShown customer = RowsOf (codes "lines") (IsLineRow customer)

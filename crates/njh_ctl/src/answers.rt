@@ -1,10 +1,10 @@
 //! What an answer holds.
 
 ghost use Rattle.std.specs.Prelude.{◌≡◌, Some, None, IfErr, IfOk};
+ghost use Rattle.serde_json.specs.Find.{get};
 ghost use Rattle.serde_json.specs.Read.{read};
 ghost use Rattle.serde_json.specs.View.{items_view, view};
-ghost use Rattle.njh_request.specs.Bodies.{string_in};
-ghost use Rattle.njh_ctl.specs.Answers.{IsNoValue, count_in, json_in, list_in, next_by, next_in};
+ghost use Rattle.njh_ctl.specs.Answers.{IsNoValue, count_in, json_in, list_in, next_by, next_in, string_in};
 
 use crate::fault::CtlFault;
 use serde_json::Value;
@@ -95,6 +95,17 @@ pub(crate) fn list_in<'a>(value: &'a Value, key: &str) -> Result<&'a [Value], Ct
 {
     match value.get(key).and_then(Value::as_array) {
         Some(values) => Ok(values.as_slice()),
+        None => Err(CtlFault::NotUnderstood),
+    }
+}
+
+/// A member, which has to be there.
+pub(crate) fn member<'a>(value: &'a Value, key: &str) -> Result<&'a Value, CtlFault>
+    ensures found { IfOk result (λ found. get key.now (view value.now) ≡ Some (view found.now)) }
+    ensures fault { IfErr result (λ fault. (fault ≡ CtlFault.NotUnderstood) × (get key.now (view value.now) ≡ None)) }
+{
+    match value.get(key) {
+        Some(member) => Ok(member),
         None => Err(CtlFault::NotUnderstood),
     }
 }

@@ -1,6 +1,8 @@
 //! Why a command to a console isn't carried out.
 
-ghost use Rattle.std.specs.Prelude.{◌≡◌};
+ghost use Rattle.std.specs.Prelude.{◌≡◌, ℕ};
+ghost use Rattle.njh_ctl.specs.Exchanges.{Link};
+ghost use Rattle.njh_ctl.specs.Faults.{IsAskedWhy, IsWhy};
 
 use std::alloc::{AllocError, AllocFailed};
 use std::fmt;
@@ -10,12 +12,27 @@ use std::fmt;
 pub enum CtlFault {
     /// The console refuses it, with this sentence.
     Refused(String),
+    /// What was ordered isn't done, and won't be: the console says why.
+    NotDone(String),
+    /// What was ordered wasn't done, or not for all, as was told.
+    TurnedDown,
+    /// What was ordered was carried out, but the console can't tell the replies, for this reason.
+    Untold(String),
+    /// It isn't known whether the order of this name was carried out.
+    Lost(String),
+    /// It isn't known whether the order of this name was carried out, and those that were to follow
+    /// weren't given.
+    CutOff(String),
+    /// Something is wrong with the hub, which was all that was asked.
+    Wrong,
     /// A name has a stroke, which no name of a customer or a line has.
     BadName,
+    /// A text is neither a name nor a number of an order.
+    NoOrder,
+    /// No customer and no line has the name.
+    NoLine,
     /// An answer isn't one of a console.
     NotUnderstood,
-    /// The order wasn't carried out in the time that a command waits.
-    OrderWaits,
     /// The console answered nothing for five seconds.
     Silent,
     /// The connection ended or failed.
@@ -26,13 +43,68 @@ pub enum CtlFault {
     Memory,
 }
 
+impl CtlFault {
+    /// Why the order of a name may not be done. All that says nothing of it leaves open whether it is.
+    pub(crate) fn lost(self, name: String) -> CtlFault
+        ensures why { (link : Link) → IsWhy self link → IsWhy result link }
+        ensures asked { (moment : ℕ) → (link : Link) → IsAskedWhy moment self link → IsAskedWhy moment result link }
+    {
+        match self {
+            CtlFault::NotDone(why) => {
+                drop(name);
+                CtlFault::NotDone(why)
+            }
+            CtlFault::Untold(why) => {
+                drop(name);
+                CtlFault::Untold(why)
+            }
+            other => {
+                drop(other);
+                CtlFault::Lost(name)
+            }
+        }
+    }
+
+    /// The same of an order that was given among others.
+    pub(crate) fn cut_off(self, name: String) -> CtlFault
+        ensures { (link : Link) → IsWhy self link → IsWhy result link }
+    {
+        match self {
+            CtlFault::Untold(why) => {
+                drop(name);
+                CtlFault::Untold(why)
+            }
+            other => {
+                drop(other);
+                CtlFault::CutOff(name)
+            }
+        }
+    }
+}
+
 impl fmt::Display for CtlFault {
     fn fmt<W: fmt::Write>(&self, f: &mut fmt::Formatter<W>) -> fmt::Result {
         match self {
             CtlFault::Refused(sentence) => f.write_str(sentence.as_str()),
+            CtlFault::NotDone(sentence) => write!(f, "not done: {sentence}"),
+            CtlFault::TurnedDown => f.write_str("not done, or not for all: see the replies"),
+            CtlFault::Untold(why) => write!(f, "done, but its replies aren't told: {why}"),
+            CtlFault::Lost(name) => write!(
+                f,
+                "it isn't known whether it was done: njehub ctl order {name} says so"
+            ),
+            CtlFault::CutOff(name) => write!(
+                f,
+                "it isn't known whether the last was done, and no other was given: \
+                 njehub ctl order {name} says so"
+            ),
+            CtlFault::Wrong => f.write_str("something is wrong"),
             CtlFault::BadName => f.write_str("no customer and no line has a / in its name"),
+            CtlFault::NoOrder => f.write_str(
+                "an order has a number or a name: a letter, and at most 31 letters, digits, -, . and _",
+            ),
+            CtlFault::NoLine => f.write_str("no customer and no line has this name"),
             CtlFault::NotUnderstood => f.write_str("the console's answer isn't understood"),
-            CtlFault::OrderWaits => f.write_str("the order waits; ask for it again"),
             CtlFault::Silent => f.write_str("the console doesn't answer"),
             CtlFault::Broken => f.write_str("the console ended the connection"),
             CtlFault::NoConsole(why) => f.write_str(why.as_str()),

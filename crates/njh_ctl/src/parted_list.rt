@@ -1,15 +1,18 @@
 //! Lists that come in parts.
 
-ghost use Rattle.std.specs.Prelude.{◌≡◌, IfErr, OnOk};
+ghost use Rattle.std.specs.Prelude.{◌≡◌, IfErr, IfOk, OnOk, map};
 ghost use Rattle.serde_json.specs.View.{view};
+ghost use Rattle.njh_ctl.specs.Asked.{part_asked};
 ghost use Rattle.njh_ctl.specs.Exchanges.{text_of};
-ghost use Rattle.njh_ctl.specs.Shown.{Adds};
-ghost use Rattle.njh_ctl.specs.Talks.{IsPlain, part_asked, part_shown};
+ghost use Rattle.njh_ctl.specs.Faults.{IsPlain};
+ghost use Rattle.njh_ctl.specs.Lists.{IsLooked, RowOf, is_filtered, key_of, list_view};
+ghost use Rattle.njh_ctl.specs.Shown.{Adds, Rows};
 
-use crate::answers::list_in;
+use crate::answers::text_in;
+use crate::choosing::{Filter, facts_of, has_choice, is_as_wanted, is_chosen};
 use crate::fault::CtlFault;
 use crate::question::Question;
-use crate::shown::{Filter, show_customers, show_files};
+use crate::shown::{show_customers, show_files};
 use crate::shown_lines::show_lines;
 use serde_json::Value;
 use std::alloc::Global;
@@ -19,8 +22,8 @@ use std::alloc::Global;
 pub(crate) enum PartedList<'a> {
     /// The customers.
     Customers,
-    /// A customer's lines.
-    Lines(&'a str),
+    /// A customer's lines, or that of a name.
+    Lines(&'a str, Option<&'a str>),
     /// A customer's files, those that are looked for.
     Files(&'a str, Filter<'a>),
 }
@@ -28,35 +31,65 @@ pub(crate) enum PartedList<'a> {
 impl<'a> PartedList<'a> {
     /// What asks for the part from a place on.
     pub(crate) fn question(self, from: u64) -> Question<'a>
-        ensures { text_of result ≡ part_asked self.entry from }
+        ensures { text_of result ≡ part_asked (list_view self.entry) from }
     {
         match self {
             PartedList::Customers => Question::Customers(from),
-            PartedList::Lines(customer) => Question::Lines(customer, from),
+            PartedList::Lines(customer, _) => Question::Lines(customer, from),
             PartedList::Files(customer, _) => Question::Files(customer, from),
         }
     }
 
-    /// Tells of a part.
-    pub(crate) fn show(self, alloc: Global, value: &Value, out: &mut String) -> Result<(), CtlFault>
-        ensures shown { OnOk result (Adds (part_shown self.entry (view value.now)) out.old out.new) }
+    /// The member of an answer that has the items.
+    pub(crate) fn key(self) -> &'static str
+        ensures { result.now ≡ key_of (list_view self.entry) }
+    {
+        match self {
+            PartedList::Customers => "customers",
+            PartedList::Lines(_, _) => "lines",
+            PartedList::Files(_, _) => "files",
+        }
+    }
+
+    /// Whether only some items are looked for.
+    pub(crate) fn is_filtered(self) -> bool
+        ensures { result ≡ is_filtered (list_view self.entry) }
+    {
+        match self {
+            PartedList::Customers => false,
+            PartedList::Lines(_, line) => line.is_some(),
+            PartedList::Files(_, filter) => has_choice(filter.choice),
+        }
+    }
+
+    /// Whether an item is looked for.
+    pub(crate) fn looks_for(self, item: &Value) -> Result<bool, CtlFault>
+        ensures looked { IfOk result (IsLooked (list_view self.entry) (view item.now)) }
         ensures fault { IfErr result IsPlain }
     {
         match self {
-            PartedList::Customers => show_customers(alloc, list_in(value, "customers")?, out),
-            PartedList::Lines(customer) => show_lines(
-                alloc,
-                customer,
-                list_in(value, "lines")?,
-                out,
-            ),
-            PartedList::Files(customer, filter) => show_files(
-                alloc,
-                customer,
-                list_in(value, "files")?,
-                filter,
-                out,
-            ),
+            PartedList::Customers => Ok(true),
+            PartedList::Lines(_, line) => Ok(is_as_wanted(text_in(item, "name")?, line)),
+            PartedList::Files(_, filter) => Ok(is_chosen(filter, facts_of(item)?)),
+        }
+    }
+
+    /// Adds a row for each of the items.
+    pub(crate) fn show(
+        self,
+        alloc: Global,
+        items: &[Value],
+        out: &mut String,
+    ) -> Result<(), CtlFault>
+        ensures shown { OnOk result (Adds (Rows (RowOf (list_view self.entry)) (map view items.now)) out.old out.new) }
+        ensures fault { IfErr result IsPlain }
+    {
+        match self {
+            PartedList::Customers => show_customers(alloc, items, out),
+            PartedList::Lines(customer, line) => {
+                show_lines(alloc, customer, items, line.is_some(), out)
+            }
+            PartedList::Files(customer, _) => show_files(alloc, customer, items, out),
         }
     }
 }

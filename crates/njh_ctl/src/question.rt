@@ -1,9 +1,9 @@
 //! What is asked of a console at once.
 
 ghost use Rattle.std.specs.Prelude.{◌≡◌};
-ghost use Rattle.njh_ctl.specs.Questions.{change_word, method_of};
+ghost use Rattle.njh_ctl.specs.Questions.{method_of};
 
-use njh_arguments::{Change, Owner};
+use crate::order::{Order, Terms};
 
 /// What is asked of a console at once.
 #[derive(Clone, Copy)]
@@ -16,31 +16,10 @@ pub enum Question<'a> {
     Lines(&'a str, u64),
     /// A customer's files, from a place on.
     Files(&'a str, u64),
-    /// That a customer's files of a name are held, released or cancelled.
-    Change(Change, Files<'a>),
-    /// That a customer's files of a name are sent to another node.
-    Reroute(Files<'a>, &'a str),
-    /// That a customer's user is told something.
-    Tell(&'a str, Owner<'a>, &'a str),
-    /// What came of the order of a number.
-    Outcome(u64),
-    /// That a line's connection ends and none is let in; at once, or once no file is on its streams.
-    Stop(&'a str, bool),
-    /// That a line has connections again.
-    Start(&'a str),
-    /// That the service ends; at once, or once no file is on a stream.
-    Shutdown(bool),
-}
-
-/// A customer's files of a name.
-#[derive(Clone, Copy)]
-pub struct Files<'a> {
-    /// The customer.
-    pub customer: &'a str,
-    /// The name.
-    pub name: &'a str,
-    /// Whose they are, if that is said.
-    pub owner: Option<Owner<'a>>,
+    /// What came of the order of a name or a number.
+    Outcome(&'a str),
+    /// That this is done, on these terms.
+    Order(Order<'a>, Terms<'a>),
 }
 
 impl Question<'_> {
@@ -54,35 +33,7 @@ impl Question<'_> {
             | Question::Lines(_, _)
             | Question::Files(_, _)
             | Question::Outcome(_) => "GET",
-            Question::Change(_, _)
-            | Question::Reroute(_, _)
-            | Question::Tell(_, _, _)
-            | Question::Shutdown(_) => "POST",
-            Question::Stop(_, _) | Question::Start(_) => "PUT",
+            Question::Order(order, _) => order.method(),
         }
-    }
-}
-
-/// The word of a command that makes a change.
-pub(crate) fn change_word(change: Change) -> &'static str
-    ensures { result.now ≡ change_word change }
-{
-    match change {
-        Change::Hold => "HOLD",
-        Change::Release => "RELEASE",
-        Change::Cancel => "CANCEL",
-    }
-}
-
-/// A customer's files of a name.
-pub(crate) fn files_of<'a>(customer: &'a str, name: &'a str, owner: Option<Owner<'a>>) -> Files<'a>
-    ensures customer { result.customer ≡ customer.entry }
-    ensures name { result.name ≡ name.entry }
-    ensures owner { result.owner ≡ owner.entry }
-{
-    Files {
-        customer,
-        name,
-        owner,
     }
 }

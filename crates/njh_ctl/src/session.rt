@@ -3,9 +3,10 @@
 ghost use Rattle.std.specs.Prelude.{◌≡◌, ◌≢◌, ◌++◌, ◌⊎◌, Err, IfErr, IfOk, Ok, OnOk, string_bytes};
 ghost use Rattle.std.specs.Io.KnownBytes.{Appends};
 ghost use Rattle.std.specs.declared.io.ErrorKind.TheVariants.{Interrupted, TimedOut, WouldBlock};
-ghost use Rattle.njh_ctl.specs.Exchanges.{Hears, Receives, Sends, bytes_of, client_after, no_reply, request_view};
-ghost use Rattle.njh_ctl.specs.Exchanges.{TakesNext, after_rest, reply_view, rest_text, size_of, target_of};
-ghost use Rattle.njh_ctl.specs.Talks.{IsPlain};
+ghost use Rattle.njh_ctl.specs.Exchanges.{Hears, IsFresh, Receives, Sends, bytes_of, client_after, no_reply};
+ghost use Rattle.njh_ctl.specs.Exchanges.{TakesNext, after_rest, reply_view, request_view, rest_text, size_of};
+ghost use Rattle.njh_ctl.specs.Exchanges.{target_of};
+ghost use Rattle.njh_ctl.specs.Faults.{IsPlain};
 
 use crate::fault::CtlFault;
 use crate::request_text::RequestText;
@@ -66,7 +67,9 @@ enum Next {
 
 impl<S: Read + Write + Drop> Session<S> {
     /// Over a stream to a console.
-    pub(crate) fn new(alloc: Global, stream: S) -> Session<S> {
+    pub(crate) fn new(alloc: Global, stream: S) -> Session<S>
+        ensures { IsFresh result }
+    {
         Session {
             stream,
             client: Client::new(Limits::default()),
@@ -181,7 +184,7 @@ fn put(
         name: b"host",
         value: b"njehub",
     }];
-    let body = request.body.as_bytes();
+    let body = request.body.as_slice();
     let method = request.method.as_bytes();
     written(client.write_request(output, method, target.as_bytes(), &host, size_of(body)))?;
     put_body(client, output, body)
@@ -273,15 +276,17 @@ fn on_error(kind: ErrorKind) -> Result<(), CtlFault>
     }
 }
 
-/// Whether a part of a request was put behind the output. Out of memory is the only refusal of what
-/// has its escapes.
+/// Whether a part of a request was put behind the output. No request goes out behind an answer by
+/// which the console ends the connection. Out of memory is the only other refusal of what has its
+/// escapes.
 fn written(put: Result<(), WriteError>) -> Result<(), CtlFault>
     ensures ok { OnOk result (put ≡ Ok tt) }
-    ensures fault { IfErr result (λ fault. (fault ≡ CtlFault.Memory) ⊎ (fault ≡ CtlFault.BadName)) }
+    ensures fault { IfErr result IsPlain }
 {
     match put {
         Ok(()) => Ok(()),
         Err(WriteError::OutOfMemory) => Err(CtlFault::Memory),
+        Err(WriteError::State) => Err(CtlFault::Broken),
         Err(_) => Err(CtlFault::BadName),
     }
 }

@@ -1,40 +1,29 @@
 //! What is told of answers, for people.
 
-ghost use Rattle.std.specs.Prelude.{◌≡◌, IfErr, IfOk, None, OnOk, Some, codes, map, string_bytes};
+ghost use Rattle.std.specs.Prelude.{◌≡◌, IfErr, IfOk, OnOk, codes, map, string_bytes};
 ghost use Rattle.std.specs.Result.{IsOkAnd};
-ghost use Rattle.std.specs.Option.{option_map};
-ghost use Rattle.serde_json.specs.Find.{get};
 ghost use Rattle.serde_json.specs.View.{view};
 ghost use Rattle.njh_ctl.specs.Answers.{count_in};
 ghost use Rattle.njh_ctl.specs.Shown.{Adds, AreFaults, AreRepliesShown, AreUsers, Grows, IsCustomerRow, IsFault};
-ghost use Rattle.njh_ctl.specs.Shown.{IsFileRow, IsFileTold, IsReply, IsSince, IsStatusShown, IsSums, IsTally};
-ghost use Rattle.njh_ctl.specs.Shown.{IsUser, IsWay, LooksFor, Rows, bytes_text, is_as_wanted, is_wanted, state_text};
-ghost use Rattle.njh_ctl.specs.Shown.{wanted_by};
-ghost use Rattle.njh_ctl.specs.Talks.{IsPlain};
+ghost use Rattle.njh_ctl.specs.Shown.{IsFileRow, IsReply, IsSince, IsStatusShown, IsSums, IsTally, IsUser, IsWay};
+ghost use Rattle.njh_ctl.specs.Shown.{Rows, bytes_text, user_text};
+ghost use Rattle.njh_ctl.specs.Faults.{IsPlain};
 
-use crate::answers::{count_in, list_in, text_in};
+use crate::answers::{count_in, list_in, member, text_in};
 use crate::fault::CtlFault;
+use crate::figures::{gravity_text, limits_text, list_or_none, show_intended, show_room};
 use jiff::Timestamp;
-use njh_arguments::FileState;
 use serde_json::Value;
 use std::alloc::{AllocError, Global};
 
 /// What stands above customers.
-pub(crate) const CUSTOMERS: &str = "CUSTOMER  QUOTA   USED  READY   HELD REFUSED SENDING ARRIVED\n";
+pub(crate) const CUSTOMERS: &str =
+    "CUSTOMER  QUOTA   USED  READY   HELD REFUSED SENDING ARRIVED   MOST TURNEDAWAY OLDEST\n";
 
 /// What stands above files.
 pub(crate) const FILES: &str =
     "CUSTOMER FILE           KIND STATE    RECORDS BLOCKS SINCE                \
     LINE     OWNER             FOR\n";
-
-/// Which files are told.
-#[derive(Clone, Copy)]
-pub(crate) struct Filter<'a> {
-    /// Only those for this node.
-    pub(crate) node: Option<&'a str>,
-    /// Only those in this state.
-    pub(crate) state: Option<FileState>,
-}
 
 /// Tells how the hub is.
 pub(crate) fn show_status(alloc: Global, value: &Value, out: &mut String) -> Result<(), CtlFault>
@@ -47,7 +36,10 @@ pub(crate) fn show_status(alloc: Global, value: &Value, out: &mut String) -> Res
     add(out, format!(in alloc; "njehub {version}, since {since}\n"))?;
     show_sums(alloc, value, out)?;
     show_bytes(alloc, value, out)?;
-    show_faults(alloc, list_in(value, "faults")?, out)
+    show_room(alloc, value, out)?;
+    let troubles = list_or_none(value, "wrong");
+    show_faults(alloc, list_in(value, "faults")?, troubles, out)?;
+    show_intended(alloc, value, out)
 }
 
 /// Tells what all customers have together.
@@ -85,7 +77,12 @@ fn show_bytes(alloc: Global, value: &Value, out: &mut String) -> Result<(), CtlF
 }
 
 /// Tells what is wrong now.
-fn show_faults(alloc: Global, faults: &[Value], out: &mut String) -> Result<(), CtlFault>
+fn show_faults(
+    alloc: Global,
+    faults: &[Value],
+    troubles: &[Value],
+    out: &mut String,
+) -> Result<(), CtlFault>
     ensures shown { OnOk result (Adds (AreFaults (map view faults.now)) out.old out.new) }
     ensures fault { IfErr result IsPlain }
 {
@@ -93,17 +90,26 @@ fn show_faults(alloc: Global, faults: &[Value], out: &mut String) -> Result<(), 
         return add(out, String::from_str(alloc, "nothing is wrong\n"));
     }
     for fault in faults {
-        show_fault(alloc, fault, out)?;
+        show_fault(alloc, fault, troubles, out)?;
     }
     Ok(())
 }
 
-fn show_fault(alloc: Global, fault: &Value, out: &mut String) -> Result<(), CtlFault>
+fn show_fault(
+    alloc: Global,
+    fault: &Value,
+    troubles: &[Value],
+    out: &mut String,
+) -> Result<(), CtlFault>
     ensures shown { OnOk result (Adds (IsFault (view fault.now)) out.old out.new) }
     ensures fault { IfErr result IsPlain }
 {
     match fault.as_str() {
-        Some(fault) => add(out, format!(in alloc; "wrong: {fault}\n")),
+        Some(fault) => {
+            let gravity = gravity_text(alloc, troubles, fault)?;
+            let gravity = gravity.as_str();
+            add(out, format!(in alloc; "wrong: {fault}\n{gravity}"))
+        }
         None => Err(CtlFault::NotUnderstood),
     }
 }
@@ -133,7 +139,9 @@ fn show_customer(alloc: Global, customer: &Value, out: &mut String) -> Result<()
     let arrived = count_in(customer, "arrived")?;
     add(out, format!(in alloc; "{name:<8} {quota:>6} {used:>6} "))?;
     show_tally(alloc, member(customer, "files")?, out)?;
-    add(out, format!(in alloc; "{arrived:>7}\n"))
+    let limits = limits_text(alloc, customer)?;
+    let limits = limits.as_str();
+    add(out, format!(in alloc; "{arrived:>7}{limits}\n"))
 }
 
 /// Tells how many files are in each state.
@@ -151,77 +159,20 @@ fn show_tally(alloc: Global, files: &Value, out: &mut String) -> Result<(), CtlF
     )
 }
 
-/// Tells of a customer's files, those that are looked for.
+/// Tells of a customer's files.
 pub(crate) fn show_files(
     alloc: Global,
     customer: &str,
     files: &[Value],
-    filter: Filter<'_>,
     out: &mut String,
 ) -> Result<(), CtlFault>
-    ensures shown { OnOk result (Adds (Rows (IsFileTold (wanted_by filter.entry) customer.now) (map view files.now))
-        out.old out.new) }
+    ensures shown { OnOk result (Adds (Rows (IsFileRow customer.now) (map view files.now)) out.old out.new) }
     ensures fault { IfErr result IsPlain }
 {
     for file in files {
-        show_wanted(alloc, customer, file, filter, out)?;
+        show_file(alloc, customer, file, out)?;
     }
     Ok(())
-}
-
-/// Tells of a file if it is looked for.
-fn show_wanted(
-    alloc: Global,
-    customer: &str,
-    file: &Value,
-    filter: Filter<'_>,
-    out: &mut String,
-) -> Result<(), CtlFault>
-    ensures shown { OnOk result (Adds (IsFileTold (wanted_by filter.entry) customer.now (view file.now)) out.old
-        out.new) }
-    ensures fault { IfErr result IsPlain }
-{
-    if is_looked_for(file, filter)? {
-        return show_file(alloc, customer, file, out);
-    }
-    Ok(())
-}
-
-/// Whether a file is looked for.
-fn is_looked_for(file: &Value, filter: Filter<'_>) -> Result<bool, CtlFault>
-    ensures looked { IfOk result (LooksFor (wanted_by filter.entry) (view file.now)) }
-    ensures fault { IfErr result IsPlain }
-{
-    let state = text_in(file, "state")?;
-    let node = text_in(member(file, "destination")?, "node")?;
-    Ok(is_wanted(filter, state, node))
-}
-
-fn is_wanted(filter: Filter<'_>, state: &str, node: &str) -> bool
-    ensures { result ≡ is_wanted (wanted_by filter.entry) state.now node.now }
-{
-    is_of_node(node, filter.node) && is_in_state(state, filter.state)
-}
-
-fn is_of_node(node: &str, wanted: Option<&str>) -> bool
-    ensures { result ≡ is_as_wanted node.now (option_map (λ node. node.now) wanted.entry) }
-{
-    match wanted {
-        Some(wanted) => node == wanted,
-        None => true,
-    }
-}
-
-fn is_in_state(state: &str, wanted: Option<FileState>) -> bool
-    ensures { result ≡ is_as_wanted state.now (option_map state_text wanted) }
-{
-    match wanted {
-        Some(FileState::Ready) => state == "READY",
-        Some(FileState::Held) => state == "HELD",
-        Some(FileState::Refused) => state == "REFUSED",
-        Some(FileState::Sending) => state == "SENDING",
-        None => true,
-    }
 }
 
 fn show_file(alloc: Global, customer: &str, file: &Value, out: &mut String) -> Result<(), CtlFault>
@@ -296,10 +247,18 @@ fn user_text(alloc: Global, user: &Value) -> Result<String, CtlFault>
 {
     let node = text_in(user, "node")?;
     let name = text_in(user, "user")?;
-    if name.is_empty() {
-        return Ok(String::from_str(alloc, node)?);
+    Ok(owner_text(alloc, node, name)?)
+}
+
+/// A user at a node, by their names.
+pub(crate) fn owner_text(alloc: Global, node: &str, user: &str) -> Result<String, AllocError>
+    ensures { IfOk result (λ text. string_bytes text ≡ user_text node.now user.now) }
+{
+    if user.is_empty() {
+        String::from_str(alloc, node)
+    } else {
+        format!(in alloc; "{node}.{user}")
     }
-    Ok(format!(in alloc; "{node}.{name}")?)
 }
 
 /// Tells what an order answered.
@@ -326,17 +285,6 @@ fn show_reply(alloc: Global, reply: &Value, out: &mut String) -> Result<(), CtlF
 {
     match reply.as_str() {
         Some(reply) => add(out, format!(in alloc; "{reply}\n")),
-        None => Err(CtlFault::NotUnderstood),
-    }
-}
-
-/// A member, which has to be there.
-pub(crate) fn member<'a>(value: &'a Value, key: &str) -> Result<&'a Value, CtlFault>
-    ensures found { IfOk result (λ found. get key.now (view value.now) ≡ Some (view found.now)) }
-    ensures fault { IfErr result (λ fault. (fault ≡ CtlFault.NotUnderstood) × (get key.now (view value.now) ≡ None)) }
-{
-    match value.get(key) {
-        Some(member) => Ok(member),
         None => Err(CtlFault::NotUnderstood),
     }
 }

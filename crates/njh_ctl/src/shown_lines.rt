@@ -6,11 +6,12 @@ ghost use Rattle.njh_ctl.specs.Questions.{Text};
 ghost use Rattle.njh_ctl.specs.Shown.{Adds, Grows, Rows, RowsOf};
 ghost use Rattle.njh_ctl.specs.ShownLines.{AreCallers, AreLineNames, IsAny, IsGuestRow, IsLineRow, IsRefusalRow};
 ghost use Rattle.njh_ctl.specs.ShownLines.{IsServed, IsServedRow, IsSessionTold, peer_in};
-ghost use Rattle.njh_ctl.specs.Talks.{IsPlain};
+ghost use Rattle.njh_ctl.specs.Faults.{IsPlain};
 
-use crate::answers::{count_in, list_in, text_in};
+use crate::answers::{count_in, list_in, member, text_in};
 use crate::fault::CtlFault;
-use crate::shown::{add, member, moment_text};
+use crate::figures::show_figures;
+use crate::shown::{add, moment_text};
 use serde_json::Value;
 use std::alloc::Global;
 
@@ -19,31 +20,38 @@ pub(crate) const LINES: &str =
     "CUSTOMER LINE     NODE     ROLE    STATE    SESSION    TURN   SINCE                \
     SITE                        PEER\n";
 
-/// Tells of a customer's lines.
+/// Tells of a customer's lines; of one that is asked for by its name what was counted too.
 pub(crate) fn show_lines(
     alloc: Global,
     customer: &str,
     lines: &[Value],
+    is_alone: bool,
     out: &mut String,
 ) -> Result<(), CtlFault>
     ensures shown { OnOk result (Adds (Rows (IsLineRow customer.now) (map view lines.now)) out.old out.new) }
     ensures fault { IfErr result IsPlain }
 {
     for line in lines {
-        show_line(alloc, customer, line, out)?;
+        show_line(alloc, customer, line, is_alone, out)?;
     }
     Ok(())
 }
 
 /// Tells of a line, its session and who comes to it, its messages and its streams.
-fn show_line(alloc: Global, customer: &str, line: &Value, out: &mut String) -> Result<(), CtlFault>
+fn show_line(
+    alloc: Global,
+    customer: &str,
+    line: &Value,
+    is_alone: bool,
+    out: &mut String,
+) -> Result<(), CtlFault>
     ensures shown { OnOk result (Adds (IsLineRow customer.now (view line.now)) out.old out.new) }
     ensures fault { IfErr result IsPlain }
 {
     show_names(alloc, customer, line, out)?;
     show_served(alloc, line, out)?;
     show_messages(alloc, line, out)?;
-    show_streams(alloc, line, out)
+    show_streams(alloc, line, is_alone, out)
 }
 
 /// Tells what a line is called and is.
@@ -264,12 +272,18 @@ fn show_messages(alloc: Global, line: &Value, out: &mut String) -> Result<(), Ct
 }
 
 /// Tells what comes and goes on a line's streams.
-fn show_streams(alloc: Global, line: &Value, out: &mut String) -> Result<(), CtlFault>
+fn show_streams(
+    alloc: Global,
+    line: &Value,
+    is_alone: bool,
+    out: &mut String,
+) -> Result<(), CtlFault>
     ensures shown { OnOk result (Adds IsAny out.old out.new) }
     ensures fault { IfErr result IsPlain }
 {
     show_senders(alloc, list_in(line, "from_hub")?, out)?;
-    show_receivers(alloc, list_in(line, "to_hub")?, out)
+    show_receivers(alloc, list_in(line, "to_hub")?, out)?;
+    show_figures(alloc, line, is_alone, out)
 }
 
 fn show_senders(alloc: Global, streams: &[Value], out: &mut String) -> Result<(), CtlFault>
@@ -293,7 +307,7 @@ fn show_receivers(alloc: Global, streams: &[Value], out: &mut String) -> Result<
 }
 
 /// What a stream is called, by its place in an answer, as the log calls it.
-fn stream_name(place: usize) -> &'static str {
+pub(crate) fn stream_name(place: usize) -> &'static str {
     match place {
         0 => "SYSIN 1",
         1 => "SYSIN 2",

@@ -1,191 +1,225 @@
-//! A command is carried out by requests, and what their answers tell is put together.
+//! What is asked in a talk with a console, and what is to be told of it.
 
-ghost use Rattle.std.specs.Prelude.{◌≡◌, ◌&&◌, ◌++◌, [], Err, IfErr, IfOk, None, OnOk, Some, false, map, string_bytes};
-ghost use Rattle.std.specs.Option.{option_map};
-ghost use Rattle.serde_json.specs.View.{view};
-ghost use Rattle.njh_ctl.specs.Exchanges.{reply_view, text_of};
-ghost use Rattle.njh_ctl.specs.Questions.{is_askable};
-ghost use Rattle.njh_ctl.specs.Shown.{AreCustomersShown, AreRepliesShown, IsStatusShown};
-ghost use Rattle.njh_ctl.specs.Shown.{customers_head, files_head, wanted_by};
+ghost use Rattle.std.specs.Prelude.{◌≡◌, [], None, IfErr, IfOk, OnOk, bytes_eq, map, option_map, string_bytes};
+ghost use Rattle.std.specs.List.{list_any};
+ghost use Rattle.njh_arguments.specs.Choices.{choice_view};
+ghost use Rattle.njh_ctl.specs.Asked.{Gathered, IsAskedSo, answer_view};
+ghost use Rattle.njh_ctl.specs.Chosen.{wanted_by};
+ghost use Rattle.njh_ctl.specs.Exchanges.{IsFresh, text_of};
+ghost use Rattle.njh_ctl.specs.Faults.{IsPlain, IsWhy};
+ghost use Rattle.njh_ctl.specs.Lists.{Customers, Files, list_view};
+ghost use Rattle.njh_ctl.specs.Many.{IsEntry, entry_view};
+ghost use Rattle.njh_ctl.specs.Orders.{with_ending};
+ghost use Rattle.njh_ctl.specs.Shown.{AreRepliesShown, customers_head, files_head};
 ghost use Rattle.njh_ctl.specs.ShownLines.{lines_head};
-ghost use Rattle.njh_ctl.specs.Talks.{CarriesOut, ComesOf, FilesListed, ForEach, HearsFor, IsFaultOf, IsNumbered};
-ghost use Rattle.njh_ctl.specs.Talks.{IsWhy, LinesListed, ListedWhole, Named, OfCustomer, Ordered, PartListed};
-ghost use Rattle.njh_ctl.specs.Talks.{PartNamed, Shows, StateOrdered, StatusAsked};
-ghost use Rattle.njh_ctl.specs.Talks.{Understands, as_came, customers_asked, headed, part_asked, part_shown, value_of};
+ghost use Rattle.njh_ctl.specs.Talks.{FilesListed, FilesOf, ForEach, LinesFound, LinesListed, LinesOf, ListedWhole};
+ghost use Rattle.njh_ctl.specs.Talks.{NameListed, OfAll, PartListed, StatusAsked, wanted_at, with_head};
+ghost use Rattle.njh_ctl.specs.Told.{IsNothing, LineTold, Tells};
 
-use crate::answers::{count_in, next_in};
+use crate::answers::next_in;
+use crate::asker::{Answer, Asked, Asker, PARTS};
+use crate::choosing::Filter;
+use crate::ending::Ending;
+use crate::entries::Entry;
 use crate::fault::CtlFault;
-use crate::names::add_names_in;
+use crate::machine::Machine;
+use crate::names::has_name;
 use crate::parted_list::PartedList;
-use crate::question::{Question, files_of};
-use crate::reply::{add_as_came, understood};
-use crate::request_text::{RequestText, is_askable};
-use crate::session::{ReplyText, Session};
-use crate::shown::{CUSTOMERS, FILES, Filter, show_replies, show_status};
+use crate::question::Question;
+use crate::replies::wrong_by;
+use crate::shown::{CUSTOMERS, FILES};
 use crate::shown_lines::LINES;
-use njh_arguments::{ConsoleCommand, Owner};
-use serde_json::Value;
+use crate::teller::Teller;
+use njh_arguments::Choice;
 use std::alloc::Global;
 use std::io::{Read, Write};
 use std::marker::Model;
 
-/// How many parts a list has at most.
-const PARTS: usize = 100_000;
-
-/// How often it is asked what came of an order.
-const TRIES: usize = 1_000;
-
-/// The status of an answer that something waits or is not clear.
-const CONFLICT: u16 = 409;
-
 /// A talk with a console, and what is to be told of it.
 #[derive(Drop)]
-pub struct Talk<S: Read + Write + Drop> {
-    alloc: Global,
-    session: Session<S>,
-    /// Answers are told as they came.
-    json: bool,
-    /// What is to be told.
-    text: String,
+pub(crate) struct Talk<S: Read + Write + Drop, M: Machine<S> + Drop> {
+    asker: Asker<S, M>,
+    teller: Teller,
+    /// When it began, in seconds since 1970.
+    moment: u64,
 }
 
-impl<S: Read + Write + Drop> Model for Talk<S> {
-    ghost use Rattle.std.specs.Prelude.{string_bytes};
-    ghost use Rattle.njh_ctl.specs.Talks.{TalkView};
+impl<S: Read + Write + Drop, M: Machine<S> + Drop> Model for Talk<S, M> {
+    ghost use Rattle.njh_ctl.specs.Orders.{TalkView};
 
     ghost Value = { TalkView };
 
-    ghost view = { λ talk. record { link = talk.session; json = talk.json; text = string_bytes talk.text } };
+    ghost view = { λ talk. record { link = talk.asker; told = talk.teller; moment = talk.moment } };
 }
 
-impl<S: Read + Write + Drop> Talk<S> {
-    /// Over a stream to a console. Answers are told as they came, or for people.
-    pub fn new(alloc: Global, stream: S, json: bool) -> Talk<S>
-        ensures json { result.json ≡ json }
-        ensures text { result.text ≡ [] }
+impl<S: Read + Write + Drop, M: Machine<S> + Drop> Talk<S, M> {
+    /// Over a connection that the machine makes. Answers are told as they came, or for people.
+    pub(crate) fn new(alloc: Global, machine: M, json: bool) -> Result<Talk<S, M>, CtlFault>
+        ensures json { IfOk result (λ talk. talk.told.json ≡ json) }
+        ensures text { IfOk result (λ talk. talk.told.text ≡ []) }
+        ensures fault { IfErr result IsPlain }
     {
-        Talk {
-            alloc,
-            session: Session::new(alloc, stream),
-            json,
-            text: String::new(alloc),
-        }
+        let asker = Asker::new(alloc, machine)?;
+        let moment = asker.now();
+        Ok(Talk {
+            asker,
+            teller: Teller::new(alloc, json),
+            moment,
+        })
+    }
+
+    /// Closes the connection, and makes another.
+    pub(crate) fn connect(&mut self) -> Result<(), CtlFault>
+        ensures done { OnOk result (IsFresh self.new.link) }
+        ensures told { self.new.told ≡ self.old.told }
+        ensures moment { self.new.moment ≡ self.old.moment }
+        ensures fault { IfErr result IsPlain }
+    {
+        self.asker.connect()
+    }
+
+    /// Now, in seconds since the beginning of 1970.
+    pub(crate) fn now(&self) -> u64 {
+        self.asker.now()
     }
 
     /// What is to be told.
-    pub fn text(&self) -> &str
-        ensures { result.now ≡ self.now.text }
+    pub(crate) fn text(&self) -> &str
+        ensures { result.now ≡ self.now.told.text }
     {
-        self.text.as_str()
+        self.teller.text()
     }
 
-    /// Carries out a command. If that fails in the middle, what came before is to be told all the
-    /// same.
-    pub fn carry_out(&mut self, command: &ConsoleCommand<'_>) -> Result<(), CtlFault>
-        ensures done { OnOk result (CarriesOut command.now self.old self.new) }
+    /// How the hub is, or only whether something is wrong.
+    pub(crate) fn status(&mut self, quiet: bool) -> Result<Ending, CtlFault>
+        ensures done { IfOk result (StatusAsked quiet self.old self.new) }
         ensures why { IfErr result (λ fault. IsWhy fault self.new.link) }
     {
-        match *command {
-            ConsoleCommand::Status => self.status(),
-            ConsoleCommand::Customers => self.customers(),
-            ConsoleCommand::Lines { customer } => self.lines(customer),
-            ConsoleCommand::Files {
-                customer,
-                node,
-                state,
-            } => self.files(customer, Filter { node, state }),
-            ConsoleCommand::Change {
-                change,
-                customer,
-                file,
-                owner,
-            } => self.order(&Question::Change(change, files_of(customer, file, owner))),
-            ConsoleCommand::Reroute {
-                customer,
-                file,
-                node,
-                owner,
-            } => self.order(&Question::Reroute(files_of(customer, file, owner), node)),
-            ConsoleCommand::Tell {
-                customer,
-                node,
-                user,
-                text,
-            } => self.order(&Question::Tell(customer, Owner { node, user }, text)),
-            ConsoleCommand::Stop { line, when_idle } => self.order_state(&Question::Stop(
-                line, when_idle,
-            )),
-            ConsoleCommand::Start { line } => self.order_state(&Question::Start(line)),
-            ConsoleCommand::Shutdown { when_idle } => self.order_state(&Question::Shutdown(
-                when_idle,
-            )),
+        let answer = self.asker.ask(&Question::Status)?;
+        if quiet {
+            return wrong_by(&answer.value);
         }
-    }
-
-    /// How the hub is.
-    fn status(&mut self) -> Result<(), CtlFault>
-        ensures done { OnOk result (StatusAsked self.old self.new) }
-        ensures why { IfErr result (λ fault. IsWhy fault self.new.link) }
-    {
-        let value = self.ask(&Question::Status, true)?;
-        self.show_status(&value)
+        self.teller.tell_status(&answer)?;
+        Ok(Ending::Done)
     }
 
     /// What customers have.
-    fn customers(&mut self) -> Result<(), CtlFault>
-        ensures done { OnOk result (ListedWhole customers_asked AreCustomersShown
-            (headed customers_head self.old) self.new) }
+    pub(crate) fn customers(&mut self) -> Result<Ending, CtlFault>
+        ensures done { IfOk result (λ ending. ListedWhole Customers (with_head customers_head self.old) self.new
+            × (ending ≡ Ending.Done)) }
         ensures why { IfErr result (λ fault. IsWhy fault self.new.link) }
     {
-        self.head(CUSTOMERS)?;
-        self.list(PartedList::Customers)
+        self.teller.set_head(CUSTOMERS);
+        self.list(PartedList::Customers)?;
+        Ok(Ending::Done)
     }
 
-    /// How lines are: a customer's, or all.
-    fn lines(&mut self, customer: Option<&str>) -> Result<(), CtlFault>
-        ensures done { OnOk result (OfCustomer LinesListed (option_map (λ name. name.now) customer.entry)
-            (headed lines_head self.old) self.new) }
+    /// How lines are: those of the customer of a name, the line of this name, or all.
+    pub(crate) fn lines(&mut self, name: Option<&str>) -> Result<Ending, CtlFault>
+        ensures done { IfOk result (λ ending.
+            LinesListed (option_map (λ name. name.now) name.entry) (with_head lines_head self.old) self.new
+            × (ending ≡ Ending.Done)) }
         ensures why { IfErr result (λ fault. IsWhy fault self.new.link) }
     {
-        self.head(LINES)?;
-        match customer {
-            Some(customer) => self.list(PartedList::Lines(customer)),
-            None => {
-                let names = self.names()?;
-                self.lines_of_all(names.as_slice())
-            }
+        self.teller.set_head(LINES);
+        let found = match name {
+            Some(name) => self.lines_called(name),
+            None => self.all_lines(),
+        };
+        if found? {
+            Ok(Ending::Done)
+        } else {
+            Err(CtlFault::NoLine)
         }
     }
 
-    fn lines_of_all(&mut self, names: &[String]) -> Result<(), CtlFault>
-        ensures done { OnOk result (ForEach LinesListed self.old (map string_bytes names.now) self.new) }
+    fn all_lines(&mut self) -> Result<bool, CtlFault>
+        ensures done { OnOk result (OfAll (LinesOf None) self.old self.new) }
+        ensures why { IfErr result (λ fault. IsWhy fault self.new.link) }
+    {
+        let names = self.asker.names()?;
+        self.lines_of_all(names.as_slice(), None)?;
+        Ok(true)
+    }
+
+    fn lines_called(&mut self, name: &str) -> Result<bool, CtlFault>
+        ensures done { OnOk result (NameListed name.now self.old self.new) }
+        ensures why { IfErr result (λ fault. IsWhy fault self.new.link) }
+    {
+        let names = self.asker.names()?;
+        self.lines_named(names.as_slice(), name)
+    }
+
+    /// The lines of the customer of a name, or the line of this name if there is none. It answers
+    /// whether there is either.
+    fn lines_named(&mut self, names: &[String], name: &str) -> Result<bool, CtlFault>
+        ensures done { IfOk result (LinesFound (list_any (λ n. bytes_eq n name.now) (map string_bytes names.now))
+            (map string_bytes names.now) name.now self.old self.new) }
+        ensures why { IfErr result (λ fault. IsWhy fault self.new.link) }
+    {
+        if has_name(names, name) {
+            self.list(PartedList::Lines(name, None))?;
+            return Ok(true);
+        }
+        let before = self.teller.text().len();
+        self.lines_of_all(names, Some(name))?;
+        Ok(self.teller.text().len() != before)
+    }
+
+    /// Of each customer the lines, or that of a name.
+    fn lines_of_all(&mut self, names: &[String], line: Option<&str>) -> Result<(), CtlFault>
+        ensures done { OnOk result (ForEach (LinesOf (option_map (λ line. line.now) line.entry)) self.old
+            (map string_bytes names.now) self.new) }
         ensures why { IfErr result (λ fault. IsWhy fault self.new.link) }
     {
         for name in names {
-            self.list(PartedList::Lines(name.as_str()))?;
+            self.list(PartedList::Lines(name.as_str(), line))?;
         }
         Ok(())
     }
 
-    /// The files that are looked for: a customer's, or all.
-    fn files(&mut self, customer: Option<&str>, filter: Filter<'_>) -> Result<(), CtlFault>
-        ensures done { OnOk result (OfCustomer (FilesListed (wanted_by filter.entry))
-            (option_map (λ name. name.now) customer.entry) (headed files_head self.old) self.new) }
+    /// The files that are chosen: a customer's, or of all.
+    pub(crate) fn files(
+        &mut self,
+        customer: Option<&str>,
+        choice: Choice<'_>,
+    ) -> Result<Ending, CtlFault>
+        ensures done { IfOk result (λ ending. FilesListed (wanted_at (choice_view choice.entry) self.old)
+            (option_map (λ name. name.now) customer.entry) (with_head files_head self.old) self.new
+            × (ending ≡ Ending.Done)) }
         ensures why { IfErr result (λ fault. IsWhy fault self.new.link) }
     {
-        self.head(FILES)?;
+        self.teller.set_head(FILES);
+        let filter = Filter {
+            choice,
+            now: self.moment,
+        };
+        self.files_told(customer, filter)?;
+        Ok(Ending::Done)
+    }
+
+    fn files_told(&mut self, customer: Option<&str>, filter: Filter<'_>) -> Result<(), CtlFault>
+        ensures done { OnOk result (FilesListed (wanted_by filter.entry)
+            (option_map (λ name. name.now) customer.entry) self.old self.new) }
+        ensures why { IfErr result (λ fault. IsWhy fault self.new.link) }
+    {
         match customer {
             Some(customer) => self.list(PartedList::Files(customer, filter)),
-            None => {
-                let names = self.names()?;
-                self.files_of_all(names.as_slice(), filter)
-            }
+            None => self.all_files(filter),
         }
     }
 
+    fn all_files(&mut self, filter: Filter<'_>) -> Result<(), CtlFault>
+        ensures done { OnOk result (OfAll (FilesOf (wanted_by filter.entry)) self.old self.new) }
+        ensures why { IfErr result (λ fault. IsWhy fault self.new.link) }
+    {
+        let names = self.asker.names()?;
+        self.files_of_all(names.as_slice(), filter)
+    }
+
     fn files_of_all(&mut self, names: &[String], filter: Filter<'_>) -> Result<(), CtlFault>
-        ensures done { OnOk result (ForEach (FilesListed (wanted_by filter.entry)) self.old
-            (map string_bytes names.now) self.new) }
+        ensures done { OnOk result (ForEach (FilesOf (wanted_by filter.entry)) self.old (map string_bytes names.now)
+            self.new) }
         ensures why { IfErr result (λ fault. IsWhy fault self.new.link) }
     {
         for name in names {
@@ -196,7 +230,7 @@ impl<S: Read + Write + Drop> Talk<S> {
 
     /// Asks for a list to its end, and tells of it.
     fn list(&mut self, list: PartedList<'_>) -> Result<(), CtlFault>
-        ensures done { OnOk result (ListedWhole (part_asked list.entry) (part_shown list.entry) self.old self.new) }
+        ensures done { OnOk result (ListedWhole (list_view list.entry) self.old self.new) }
         ensures why { IfErr result (λ fault. IsWhy fault self.new.link) }
     {
         let mut from = 0;
@@ -211,183 +245,90 @@ impl<S: Read + Write + Drop> Talk<S> {
 
     /// Asks for a part of a list, and tells of it.
     fn list_from(&mut self, list: PartedList<'_>, from: u64) -> Result<Option<u64>, CtlFault>
-        ensures done { IfOk result (λ next. PartListed (part_asked list.entry from) (part_shown list.entry)
-            self.old self.new next) }
+        ensures done { IfOk result (PartListed (list_view list.entry) from self.old self.new) }
         ensures why { IfErr result (λ fault. IsWhy fault self.new.link) }
     {
-        let value = self.ask(&list.question(from), true)?;
-        self.show_part(list, &value)?;
-        next_in(&value)
+        let answer = self.asker.ask(&list.question(from))?;
+        let next = next_in(&answer.value)?;
+        self.teller.tell_part(list, answer)?;
+        Ok(next)
     }
 
-    /// Tells of a part of a list, for people.
-    fn show_part(&mut self, list: PartedList<'_>, value: &Value) -> Result<(), CtlFault>
-        ensures done { OnOk result (Shows (part_shown list.entry (view value.now)) self.old self.new) }
+    /// A customer's files, by name and owner.
+    pub(crate) fn entries(
+        &mut self,
+        customer: &str,
+        choice: Choice<'_>,
+    ) -> Result<Vec<Entry>, CtlFault>
+        ensures done { IfOk result (λ entries. Gathered (Files customer.now (wanted_at (choice_view choice.entry) self.old))
+            (IsEntry (wanted_at (choice_view choice.entry) self.old)) self.old.link self.new.link
+            (map entry_view entries.items) None) }
+        ensures told { self.new.told ≡ self.old.told }
+        ensures moment { self.new.moment ≡ self.old.moment }
+        ensures why { IfErr result (λ fault. IsWhy fault self.new.link) }
+    {
+        let filter = Filter {
+            choice,
+            now: self.moment,
+        };
+        self.asker.entries(customer, filter)
+    }
+
+    /// What comes of a question.
+    pub(crate) fn try_ask(&mut self, question: &Question<'_>) -> Result<Asked, CtlFault>
+        ensures done { IfOk result (IsAskedSo (text_of question.now) self.old.link self.new.link) }
+        ensures told { self.new.told ≡ self.old.told }
+        ensures moment { self.new.moment ≡ self.old.moment }
+        ensures fault { IfErr result IsPlain }
+    {
+        self.asker.try_ask(question)
+    }
+
+    /// Tells that an order was taken, of which people are told nothing.
+    pub(crate) fn tell_taken(&mut self, answer: &Answer) -> Result<(), CtlFault>
+        ensures done { OnOk result (Tells IsNothing (answer_view answer.now).reply.body self.old.told self.new.told) }
         ensures link { self.new.link ≡ self.old.link }
-        ensures why { IfErr result (λ fault. IsWhy fault self.new.link) }
+        ensures moment { self.new.moment ≡ self.old.moment }
+        ensures fault { IfErr result IsPlain }
     {
-        if self.json {
-            return Ok(());
-        }
-        list.show(self.alloc, value, &mut self.text)
+        self.teller.tell_taken(answer)
     }
 
-    /// Tells how the hub is, for people.
-    fn show_status(&mut self, value: &Value) -> Result<(), CtlFault>
-        ensures done { OnOk result (Shows (IsStatusShown (view value.now)) self.old self.new) }
+    /// Tells what an order answered.
+    pub(crate) fn tell_replies(&mut self, answer: &Answer) -> Result<(), CtlFault>
+        ensures done { OnOk result (Tells (AreRepliesShown (answer_view answer.now).value)
+            (answer_view answer.now).reply.body self.old.told self.new.told) }
         ensures link { self.new.link ≡ self.old.link }
-        ensures why { IfErr result (λ fault. IsWhy fault self.new.link) }
+        ensures moment { self.new.moment ≡ self.old.moment }
+        ensures fault { IfErr result IsPlain }
     {
-        if self.json {
-            return Ok(());
-        }
-        show_status(self.alloc, value, &mut self.text)
+        self.teller.tell_replies(answer)
     }
 
-    /// Tells what an order answered, for people.
-    fn show_replies(&mut self, value: &Value) -> Result<(), CtlFault>
-        ensures done { OnOk result (Shows (AreRepliesShown (view value.now)) self.old self.new) }
+    /// Tells people that all was done, if it was.
+    pub(crate) fn tell_ending(&mut self, ending: Ending) -> Result<(), CtlFault>
+        ensures done { OnOk result (self.new ≡ with_ending ending self.old) }
         ensures link { self.new.link ≡ self.old.link }
-        ensures why { IfErr result (λ fault. IsWhy fault self.new.link) }
+        ensures moment { self.new.moment ≡ self.old.moment }
+        ensures fault { IfErr result IsPlain }
     {
-        if self.json {
-            return Ok(());
-        }
-        show_replies(self.alloc, value, &mut self.text)
+        self.teller.tell_ending(ending)
     }
 
-    /// The names of all customers.
-    fn names(&mut self) -> Result<Vec<String>, CtlFault>
-        ensures done { IfOk result (λ names. Named self.old self.new (map string_bytes names.items) None) }
-        ensures why { IfErr result (λ fault. IsWhy fault self.new.link) }
-    {
-        let mut names = Vec::new(self.alloc);
-        match self.add_names(&mut names) {
-            Ok(()) => Ok(names),
-            Err(fault) => {
-                drop(names);
-                Err(fault)
-            }
-        }
-    }
-
-    fn add_names(&mut self, names: &mut Vec<String>) -> Result<(), CtlFault>
-        requires { names.old.items ≡ [] }
-        ensures done { OnOk result (Named self.old self.new (map string_bytes names.new.items) None) }
-        ensures why { IfErr result (λ fault. IsWhy fault self.new.link) }
-    {
-        let mut from = 0;
-        for _ in 0..PARTS {
-            match self.names_from(from, names)? {
-                Some(next) => from = next,
-                None => return Ok(()),
-            }
-        }
-        Err(CtlFault::NotUnderstood)
-    }
-
-    fn names_from(&mut self, from: u64, names: &mut Vec<String>) -> Result<Option<u64>, CtlFault>
-        ensures done { IfOk result (λ next. PartNamed from self.old self.new (map string_bytes names.old.items)
-            (map string_bytes names.new.items) next) }
-        ensures why { IfErr result (λ fault. IsWhy fault self.new.link) }
-    {
-        let value = self.ask(&Question::Customers(from), false)?;
-        add_names_in(self.alloc, &value, names)?;
-        next_in(&value)
-    }
-
-    /// Gives an order, and asks what came of it.
-    fn order(&mut self, order: &Question<'_>) -> Result<(), CtlFault>
-        ensures done { OnOk result (Ordered (text_of order.now) self.old self.new) }
-        ensures why { IfErr result (λ fault. IsWhy fault self.new.link) }
-    {
-        let number = self.number_of(order)?;
-        let value = self.outcome(number)?;
-        self.show_replies(&value)
-    }
-
-    /// Gives an order that gets this number.
-    fn number_of(&mut self, order: &Question<'_>) -> Result<u64, CtlFault>
-        ensures done { IfOk result (IsNumbered (text_of order.now) self.old self.new) }
-        ensures why { IfErr result (λ fault. IsWhy fault self.new.link) }
-    {
-        let taken = self.ask(order, true)?;
-        count_in(&taken, "order")
-    }
-
-    /// What came of an order, once it was carried out.
-    fn outcome(&mut self, number: u64) -> Result<Value, CtlFault>
-        ensures done { IfOk result (λ value. ComesOf number self.old self.new (view value)) }
-        ensures why { IfErr result (λ fault. IsWhy fault self.new.link) }
-    {
-        let question = Question::Outcome(number);
-        for tried in 0..TRIES {
-            let reply = self.reply_to(&question)?;
-            if reply.status != CONFLICT {
-                return self.value_of(&reply, true);
-            }
-        }
-        Err(CtlFault::OrderWaits)
-    }
-
-    /// Gives an order of which nothing comes but that it was taken.
-    fn order_state(&mut self, order: &Question<'_>) -> Result<(), CtlFault>
-        ensures done { OnOk result (StateOrdered (text_of order.now) self.old self.new) }
-        ensures why { IfErr result (λ fault. IsWhy fault self.new.link) }
-    {
-        let value = self.ask(order, true)?;
-        drop(value);
-        self.head("taken\n")
-    }
-
-    /// Tells a text for people, as what stands above a list.
-    fn head(&mut self, head: &str) -> Result<(), CtlFault>
-        ensures done { OnOk result (self.new ≡ headed head.now self.old) }
-        ensures why { IfErr result (λ fault. IsWhy fault self.new.link) }
-    {
-        if !self.json {
-            self.text.push_str(head)?;
-        }
-        Ok(())
-    }
-
-    /// The value of the answer to a question, which is told as it came if that is asked for, and if
-    /// it is to be `told`.
-    fn ask(&mut self, question: &Question<'_>, told: bool) -> Result<Value, CtlFault>
-        ensures done { IfOk result (λ value. Understands (text_of question.now) told self.old self.new (view value)) }
-        ensures why { IfErr result (λ fault. IsWhy fault self.new.link) }
-    {
-        let reply = self.reply_to(question)?;
-        self.value_of(&reply, told)
-    }
-
-    /// The answer to a question.
-    fn reply_to(&mut self, question: &Question<'_>) -> Result<ReplyText, CtlFault>
-        ensures done { IfOk result (λ reply. HearsFor (text_of question.now) self.old self.new (reply_view reply)) }
-        ensures why { IfErr result (λ fault. IsWhy fault self.new.link) }
-        ensures bad { is_askable question.now ≡ false → (result ≡ Err CtlFault.BadName) × (self.new ≡ self.old) }
-    {
-        if !is_askable(question) {
-            return Err(CtlFault::BadName);
-        }
-        let request = RequestText::of(self.alloc, question)?;
-        self.session.send(self.alloc, &request)?;
-        self.session.answer(self.alloc)
-    }
-
-    /// The value of an answer, unless it is a refusal.
-    fn value_of(&mut self, reply: &ReplyText, told: bool) -> Result<Value, CtlFault>
-        ensures done { IfOk result (λ value. value_of (reply_view reply.now) ≡ Some (view value)) }
+    /// Tells a line of our own.
+    pub(crate) fn tell_line(&mut self, line: &str) -> Result<(), CtlFault>
+        ensures done { OnOk result (LineTold line.now self.old.told self.new.told) }
         ensures link { self.new.link ≡ self.old.link }
-        ensures json { self.new.json ≡ self.old.json }
-        ensures told { OnOk result (self.new.text ≡ self.old.text
-            ++ as_came (self.old.json && told) (reply_view reply.now).body) }
-        ensures fault { IfErr result (IsFaultOf (reply_view reply.now)) }
+        ensures moment { self.new.moment ≡ self.old.moment }
+        ensures fault { IfErr result IsPlain }
     {
-        let value = understood(self.alloc, reply)?;
-        if self.json && told {
-            add_as_came(reply.body.as_slice(), &mut self.text)?;
-        }
-        Ok(value)
+        self.teller.tell_line(line)
+    }
+
+    /// When it began, in seconds since 1970.
+    pub(crate) fn moment(&self) -> u64
+        ensures { result ≡ self.now.moment }
+    {
+        self.moment
     }
 }

@@ -1,9 +1,8 @@
 use Rattle.std.proofs.Common.{map, take}
 use Rattle.serde_json.specs.View.{view}
 use Rattle.njh_ctl.proofs.RowLaws.{HasRows}
-use Rattle.njh_ctl.specs.Shown.{IsFileTold, wanted_by}
+use Rattle.njh_ctl.specs.Shown.{IsFileRow}
 use Rattle.njh_ctl.proofs.shown.show_files.Given as goal
 
 abbrev pub invariant-loop-file : goal.invariant-loop-file
-invariant-loop-file l =
-    HasRows (IsFileTold (wanted_by l.filter) l.customer) (map view (take l.file-index l.files)) l.fn.out l.out
+invariant-loop-file l = HasRows (IsFileRow l.customer) (map view (take l.file-index l.files)) l.fn.out l.out

@@ -7,7 +7,7 @@ use Rattle.njh_ctl.proofs.request_text.RequestText.of.Goals as goal
 pub returns-clause-meant : goal.returns-clause-meant
 returns-clause-meant c tables =
     read_back tables c.args.question.now c.method.result.now (string_bytes c.in_ok-path.path)
-    (option_map string_bytes c.in_ok-query.query) (string_bytes c.in_ok-body.body) c.requires c.method.ensures
+    (option_map string_bytes c.in_ok-query.query) c.in_ok-body.body.items c.requires c.method.ensures
     (c.in_ok-path.ensures.plain ∙ c.as_str.ensures.value ∙ c.in_ok-plain.ensures)
     (subst (λ (path : List ℕ). is_utf8 path ≡ true) (c.as_str.ensures.value ∙ c.in_ok-plain.ensures)
     c.escaped.ensures.text)

@@ -1,30 +1,23 @@
-use Rattle.std.proofs.Common.{OnOk, List, None, map, subst}
-use Rattle.std.proofs.lemmas.Result.{on_ok_weaker}
-use Rattle.std.specs.Prelude.{String, string_bytes}
-use Rattle.std.specs.declared.alloc.Global.{Global}
-use Rattle.njh_ctl.specs.Shown.{wanted_by}
-use Rattle.njh_ctl.specs.Talks.{ForEach, FilesListed, OfCustomer, TalkView}
+use Rattle.std.proofs.Common.{option_map, refl, subst}
+use Rattle.njh_arguments.specs.Choices.{choice_view}
+use Rattle.njh_ctl.proofs.TalkLaws.{talk_of}
+use Rattle.njh_ctl.specs.Orders.{TalkView}
+use Rattle.njh_ctl.specs.Shown.{files_head}
+use Rattle.njh_ctl.specs.Talks.{FilesListed, wanted_at, with_head}
+use Rattle.njh_ctl.specs.Told.{Told}
 use Rattle.njh_ctl.proofs.talk.Talk.files.Goals as goal
 
-pub returns-in-Some-clause-done : goal.returns-in-Some-clause-done
-returns-in-Some-clause-done g c =
-    let r = c.list.result in
-    let this = (FilesListed (wanted_by c.args.filter)) in
-    let new = c.list.new.self in
-    rw c.in-Some.is
-    (subst (λ (old : TalkView). OnOk r (this c.in-Some.customer.now old new)) c.in_ok-head.ensures.done
-    c.list.ensures.done)
-
-pub returns-in_ok-names-in-None-clause-done : goal.returns-in_ok-names-in-None-clause-done
-returns-in_ok-names-in-None-clause-done g c =
-    let r = c.files_of_all.result in
-    let this = (FilesListed (wanted_by c.args.filter)) in
-    let names = map string_bytes c.in_ok-names-in-None.names.items in
-    let mid = c.names.new.self in
-    let new = c.files_of_all.new.self in
-    let each : OnOk r (ForEach this mid names new) =
-    subst (λ (list : List (String Global)). OnOk r (ForEach this mid (map string_bytes list) new))
-    c.as_slice.ensures.value c.files_of_all.ensures.done in
-    rw c.in-None.is
-    (subst (λ (old : TalkView). OnOk r (OfCustomer this None old new)) c.in_ok-head.ensures.done
-    (on_ok_weaker r (λ (one : ForEach this mid names new). (names, mid, c.in_ok-names-in-None.ensures.done, one)) each))
+pub returns-clause-done : goal.returns-clause-done
+returns-clause-done g c =
+    let choice = choice_view c.args.choice in
+    let customer = option_map (λ name. name.now) c.args.customer in
+    let new = c.files_told.new.self in
+    let link = c.self.inside.asker in
+    let moment = c.self.inside.moment in
+    let begun = talk_of link c.self.inside.teller moment in (
+      subst (λ (old : TalkView). FilesListed (wanted_at choice old) customer (with_head files_head old) new)
+          c.self.view_is
+          (subst (λ (told : Told). FilesListed (wanted_at choice begun) customer (talk_of link told moment) new)
+          c.set_head.ensures c.in_ok-files_told.ensures.done),
+      refl,
+    )

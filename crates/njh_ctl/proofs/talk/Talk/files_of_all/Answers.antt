@@ -1,7 +1,7 @@
 use Rattle.std.proofs.Common.{List, ℕ, subst}
-use Rattle.njh_ctl.specs.Shown.{wanted_by}
 use Rattle.njh_ctl.proofs.NameLaws.{each_more}
-use Rattle.njh_ctl.specs.Talks.{FilesListed, each_begins}
+use Rattle.njh_ctl.specs.Chosen.{wanted_by}
+use Rattle.njh_ctl.specs.Talks.{FilesOf, each_begins}
 use Rattle.njh_ctl.proofs.talk.Talk.files_of_all.Goals as goal
 
 pub loop-name-init : goal.loop-name-init
@@ -9,7 +9,7 @@ loop-name-init g c = each_begins
 
 pub loop-name-preserved : goal.loop-name-preserved
 loop-name-preserved g c =
-    let this = (FilesListed (wanted_by c.args.filter)) in
+    let this = FilesOf (wanted_by c.args.filter) in
     let mid = c.loop-name.self in
     let new = c.list.new.self in
     each_more this c.args.self.now mid new c.args.names.now c.loop-name.name-index c.name-item.result

@@ -1,9 +1,9 @@
 use Rattle.std.proofs.Common.{map, take}
 use Rattle.std.specs.Prelude.{string_bytes}
-use Rattle.njh_ctl.specs.Shown.{wanted_by}
-use Rattle.njh_ctl.specs.Talks.{FilesListed, ForEach}
+use Rattle.njh_ctl.specs.Chosen.{wanted_by}
+use Rattle.njh_ctl.specs.Talks.{FilesOf, ForEach}
 use Rattle.njh_ctl.proofs.talk.Talk.files_of_all.Given as goal
 
 abbrev pub invariant-loop-name : goal.invariant-loop-name
 invariant-loop-name g l =
-    ForEach (FilesListed (wanted_by l.filter)) l.fn.self (map string_bytes (take l.name-index l.names)) l.self
+    ForEach (FilesOf (wanted_by l.filter)) l.fn.self (map string_bytes (take l.name-index l.names)) l.self

@@ -1,6 +1,6 @@
-use Rattle.std.proofs.Common.{List, ℕ, subst}
+use Rattle.std.proofs.Common.{List, ℕ, option_map, subst}
 use Rattle.njh_ctl.proofs.NameLaws.{each_more}
-use Rattle.njh_ctl.specs.Talks.{LinesListed, each_begins}
+use Rattle.njh_ctl.specs.Talks.{LinesOf, each_begins}
 use Rattle.njh_ctl.proofs.talk.Talk.lines_of_all.Goals as goal
 
 pub loop-name-init : goal.loop-name-init
@@ -8,7 +8,7 @@ loop-name-init g c = each_begins
 
 pub loop-name-preserved : goal.loop-name-preserved
 loop-name-preserved g c =
-    let this = LinesListed in
+    let this = LinesOf (option_map (λ line. line.now) c.args.line) in
     let mid = c.loop-name.self in
     let new = c.list.new.self in
     each_more this c.args.self.now mid new c.args.names.now c.loop-name.name-index c.name-item.result

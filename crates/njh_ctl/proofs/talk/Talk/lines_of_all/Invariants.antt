@@ -1,7 +1,9 @@
-use Rattle.std.proofs.Common.{map, take}
+use Rattle.std.proofs.Common.{map, option_map, take}
 use Rattle.std.specs.Prelude.{string_bytes}
-use Rattle.njh_ctl.specs.Talks.{ForEach, LinesListed}
+use Rattle.njh_ctl.specs.Talks.{ForEach, LinesOf}
 use Rattle.njh_ctl.proofs.talk.Talk.lines_of_all.Given as goal
 
 abbrev pub invariant-loop-name : goal.invariant-loop-name
-invariant-loop-name g l = ForEach LinesListed l.fn.self (map string_bytes (take l.name-index l.names)) l.self
+invariant-loop-name g l =
+    ForEach (LinesOf (option_map (λ line. line.now) l.line)) l.fn.self (map string_bytes (take l.name-index l.names))
+    l.self

@@ -1,6 +1,7 @@
 use Rattle.std.proofs.Common.{Some}
-use Rattle.njh_ctl.specs.Talks.{Listed, part_asked, part_shown}
+use Rattle.njh_ctl.specs.Lists.{list_view}
+use Rattle.njh_ctl.specs.Talks.{Listed}
 use Rattle.njh_ctl.proofs.talk.Talk.list.Given as goal
 
 abbrev pub invariant-loop : goal.invariant-loop
-invariant-loop g l = Listed (part_asked l.list) (part_shown l.list) l.fn.self l.self (Some l.from)
+invariant-loop g l = Listed (list_view l.list) l.fn.self l.self (Some l.from)
