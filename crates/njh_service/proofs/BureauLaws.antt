@@ -2,7 +2,7 @@
 use Rattle.std.proofs.Common.{◌≡◌, ℕ, ◌+◌, ◌<◌, List, [], ◌∷◌, ◌++◌, length, get_or, take, map, Some, refl}
 use Rattle.std.proofs.Common.{sym, ap, ◌∙◌, subst}
 use Rattle.std.proofs.lemmas.List.{map-append}
-use Rattle.std.specs.Prelude.{Bool, false, Option, None, slice_get, if◌then◌else◌, ◌&&◌}
+use Rattle.std.specs.Prelude.{Bool, true, false, cond, Option, None, slice_get, if◌then◌else◌, ◌&&◌}
 use Rattle.std.specs.Option.{option_map}
 use Rattle.std.specs.declared.net.socket_addr.SocketAddr.{SocketAddr}
 use Rattle.njh_request.specs.declared.request.LineState.TheVariants.{Stopped}
@@ -11,8 +11,12 @@ use Rattle.njh_console.specs.Consoles.{ConsoleState}
 use Rattle.njh_console.specs.declared.act.Act.{Act}
 use Rattle.njh_console.specs.declared.act.Act.TheVariants as act
 use Rattle.njh_hub.specs.WholeHub.{Part}
-use Rattle.njh_console.specs.Orders.{given_of, with_order_given, TakenOrders}
-use Rattle.njh_turns.specs.Service.{order_event, ordered, AskedOrder}
+use Rattle.njh_answer.specs.Tickets.{is_late}
+use Rattle.njh_answer.specs.declared.orders.Outcome.TheVariants.{TooLate}
+use Rattle.njh_console.specs.Orders.{due_if, given_if, order_due, with_order_given, with_outcome, NoneIsOpen, TakenOrders}
+use Rattle.njh_console.specs.declared.act.Asked.{Asked}
+use Rattle.njh_console.specs.declared.order_book.WaitingOrder.{WaitingOrder}
+use Rattle.njh_turns.specs.Service.{order_event, AskedOrder}
 use Rattle.njh_turns.specs.declared.attendant.NewOrder.{NewOrder}
 use Rattle.njh_request.specs.declared.request.EndMoment.{EndMoment}
 use Rattle.njh_service.specs.Bureaus.{lines_told, post_told, stop_after, view_told}
@@ -24,6 +28,7 @@ use Rattle.njh_revision.specs.Revisions.{KnownTables}
 use Rattle.njh_lines.specs.Watching.{served_line, ServedLine, Watched}
 use Rattle.njh_lines.specs.declared.post.Post.{Post}
 use Rattle.njh_sight.specs.declared.steps.Steps.{Steps}
+use Rattle.njh_sight.specs.declared.tally.Tally.{Tally}
 use Rattle.njh_sites.proofs.OpenedLaws.{made_more}
 
 settled_same : (parts : List Part) (line : ServedLine) → is_draining line.state ≡ false
@@ -44,26 +49,43 @@ none_settled parts lines none place =
     settled_where parts (slice_get lines place) (λ line found. none place line found)
 
 -- an order that is brought is the one that was given
-pub awaits_what_was_given : (brought : Option NewOrder) (orders new : TakenOrders) → brought ≡ orders.waiting →
-    new ≡ with_order_given orders → AwaitsAnswer (AskedOrder (option_map order_event brought)) new
-awaits_what_was_given None orders new is given = tt
-awaits_what_was_given (Some order) orders new is given =
-    let Given : Option NewOrder → Type 0 = λ waiting. given_of waiting orders.given ≡ Some (ordered order) in
-    ap (λ (o : TakenOrders). o.given) given ∙ subst Given is refl
+given_case : (late : Bool) (w : WaitingOrder) (o : TakenOrders)
+    → AwaitsAnswer (AskedOrder (option_map order_event (cond late None (Some w.order))))
+    (cond late (with_outcome w.ticket TooLate (record o { waiting = None; given = None }))
+    (record o { waiting = None; given = Some w.ticket }))
+given_case true w o = record { none_waits = refl; none_given = refl }
+given_case false w o = (refl, (w, refl, refl))
 
--- what is told of posts is what is told of their lines, with what was noted of the steps on them
+due_case : (now : ℕ) (waiting : Option WaitingOrder) (o : TakenOrders) → o.waiting ≡ waiting
+    → AwaitsAnswer (AskedOrder (option_map order_event (due_if now waiting))) (given_if now waiting o)
+due_case now None o is = record { none_waits = is; none_given = refl }
+due_case now (Some w) o is = given_case (is_late now w.ticket.terms) w o
+
+pub awaits_what_was_given : (now : ℕ) (brought : Option NewOrder) (orders new : TakenOrders)
+    → brought ≡ order_due now orders → new ≡ with_order_given now orders
+    → AwaitsAnswer (AskedOrder (option_map order_event brought)) new
+awaits_what_was_given now brought orders new is given =
+    subst (λ (b : Option NewOrder). AwaitsAnswer (AskedOrder (option_map order_event b)) new) (sym is)
+    (subst (λ (n : TakenOrders). AwaitsAnswer (AskedOrder (option_map order_event (order_due now orders))) n)
+    (sym given) (due_case now orders.waiting orders refl))
+
+-- what is told of posts is what is told of their lines, with what was noted of the steps on them and counted
 posts_told : {L C : Type 0} (address_of : L → SocketAddr) (posts : List (Post L C))
     → map post_told posts ≡ lines_told (map (served_line address_of) posts) (map (λ post. post.steps) posts)
+    (map (λ post. post.streams.tally) posts)
 posts_told address_of [] = refl
 posts_told address_of (post ∷ posts) = ap (λ rest. post_told post ∷ rest) (posts_told address_of posts)
 
 pub all_told : {L C : Type 0} (address_of : L → SocketAddr) (posts : List (Post L C)) (lines : List ServedLine)
-    (steps : List Steps) → map (served_line address_of) posts ≡ lines → map (λ post. post.steps) posts ≡ steps
-    → map post_told posts ≡ lines_told lines steps
-all_told address_of posts lines steps seen noted =
+    (steps : List Steps) (tallies : List Tally) → map (served_line address_of) posts ≡ lines
+    → map (λ post. post.steps) posts ≡ steps → map (λ post. post.streams.tally) posts ≡ tallies
+    → map post_told posts ≡ lines_told lines steps tallies
+all_told address_of posts lines steps tallies seen noted counted =
     posts_told address_of posts
-    ∙ (ap (λ (own : List ServedLine). lines_told own (map (λ post. post.steps) posts)) seen
-    ∙ ap (λ (own : List Steps). lines_told lines own) noted)
+    ∙ (ap (λ (own : List ServedLine). lines_told own (map (λ post. post.steps) posts)
+    (map (λ post. post.streams.tally) posts)) seen
+    ∙ (ap (λ (own : List Steps). lines_told lines own (map (λ post. post.streams.tally) posts)) noted
+    ∙ ap (λ (own : List Tally). lines_told lines steps own) counted))
 
 -- what is told of the lines so far, and of one more
 pub told_more : {L C : Type 0} (posts : List (Post L C)) (n : ℕ) (post : Post L C) (views new : List LineView)
@@ -82,14 +104,10 @@ told_more posts n post views new view within so_far pushed told read =
 pub none_drain : (old new : Watched) → new ≡ old → NoneDrains old.lines → NoneDrains new.lines
 none_drain old new same none = subst (λ (w : Watched). NoneDrains w.lines) (sym same) none
 
--- what was asked of the same lines and the same console
-pub asked_as : {V : Type 0} (parts : List Part) (known tables : Option KnownTables) (seen own : Watched)
-    (before console after : ConsoleState V) (what : Option Act) → known ≡ tables → seen ≡ own → before ≡ console
-    → IsAsked parts known seen before after what → IsAsked parts tables own console after what
-asked_as {V} parts known tables seen own before console after what by same is asked =
-    subst (λ (t : Option KnownTables). IsAsked parts t own console after what) by
-    (subst (λ (w : Watched). IsAsked parts known w console after what) same
-    (subst (λ (k : ConsoleState V). IsAsked parts known seen k after what) is asked))
+-- what was asked of the same service
+pub asked_as : {V : Type 0} (parts : List Part) (seen own : Attended V) (after : ConsoleState V) (what : Asked)
+    → seen ≡ own → IsAsked parts seen after what → IsAsked parts own after what
+asked_as {V} parts seen own after what same is = subst (λ (s : Attended V). IsAsked parts s after what) same is
 
 -- what is obeyed behind an answer that changed nothing
 pub obeyed_after : {V : Type 0} (what : Option Act) (old between new : Attended V) → between.exchange ≡ old.exchange
@@ -101,7 +119,6 @@ obeyed_after (Some (act.Line id wish)) old between new same stop obeyed = (
 )
 obeyed_after (Some (act.Stop moment)) old between new same stop obeyed =
     (obeyed.0 ∙ same, obeyed.1 ∙ ap (λ (was : Option EndMoment). stop_after was moment) stop)
-obeyed_after (Some (act.Refused refusal)) old between new same stop obeyed = (obeyed.0 ∙ same, obeyed.1 ∙ stop)
 
 -- the same of a service of which the lines and the end are those of another
 pub obeyed_as : {V : Type 0} (what : Option Act) (old new after : Attended V) → after.exchange ≡ new.exchange
@@ -112,4 +129,3 @@ obeyed_as (Some (act.Line id wish)) old new after same stop obeyed = (
   stop ∙ obeyed.1,
 )
 obeyed_as (Some (act.Stop moment)) old new after same stop obeyed = (same ∙ obeyed.0, stop ∙ obeyed.1)
-obeyed_as (Some (act.Refused refusal)) old new after same stop obeyed = (same ∙ obeyed.0, stop ∙ obeyed.1)

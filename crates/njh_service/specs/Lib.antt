@@ -1,5 +1,6 @@
 pub mod Bureaus
 pub mod Opening
 pub mod Presences
+pub mod Rereading
 pub mod Revising
 pub mod Serving

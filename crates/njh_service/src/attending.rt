@@ -14,6 +14,7 @@ use std::io::Write;
 impl<N: Network + Drop, L: Write + Drop, S: TableSource + Drop> Attendant<LineWire<N::Connection>>
     for Bureau<N, L, S> {
     ghost use Rattle.std.specs.Prelude.{IsTrue};
+    ghost use Rattle.njh_console.specs.Orders.{order_due};
     ghost use Rattle.njh_lines.specs.Attention.{watch_at};
     ghost use Rattle.njh_lines.specs.Watching.{HasNoted, IsToBePrompted};
     ghost use Rattle.njh_service.specs.Bureaus.{AwaitsAnswer, IsClosed, IsOpenedBy};
@@ -33,12 +34,12 @@ impl<N: Network + Drop, L: Write + Drop, S: TableSource + Drop> Attendant<LineWi
     // As its exchange prompts.
     ghost wants = { λ bureau place parts. IsToBePrompted bureau.exchange place parts };
 
-    // The order that waits at its console.
-    ghost order = { λ bureau. bureau.console.orders.waiting };
+    // The order that waits at its console, if it isn't too late for it.
+    ghost order = { λ bureau. order_due bureau.clock bureau.console.orders };
 
     ghost opens = { λ old wires new new_wires. IsOpenedBy old wires new new_wires };
 
-    ghost closes = { λ old wires parts new new_wires. IsClosed parts old new };
+    ghost closes = { λ old wires parts new new_wires. IsClosed S.Fault S.gives parts old new };
 
     /// The operator may end it.
     fn is_over(&self) -> bool {
@@ -60,7 +61,7 @@ impl<N: Network + Drop, L: Write + Drop, S: TableSource + Drop> Attendant<LineWi
     /// What the operator ordered in the round before: the order that waits.
     #[tactic(auto, using(crate::proofs::BureauLaws::awaits_what_was_given))]
     fn new_order(&mut self) -> Option<NewOrder> {
-        self.console.order()
+        self.new_order()
     }
 
     fn order_done(

@@ -4,27 +4,28 @@ ghost use Rattle.std.specs.Prelude.{◌≡◌, ◌++◌, ◌↔◌, is_ok, map, 
 ghost use Rattle.njh_turns.specs.Service.{AreStill};
 ghost use Rattle.njh_wire.specs.Tally.{IsTallied};
 ghost use Rattle.njh_table.specs.TableFile.{HasLine};
-ghost use Rattle.njh_console.specs.Orders.{IsOrderDone};
+ghost use Rattle.njh_console.specs.Orders.{order_due, with_order_given, IsOrderDone, NoneIsOpen};
 ghost use Rattle.njh_sites.specs.Endpoints.{endpoints_of};
 ghost use Rattle.njh_sites.specs.Opened.{IsApart};
 ghost use Rattle.njh_sight.specs.Waking.{marked, IsRowMade};
 ghost use Rattle.njh_lines.specs.LineStates.{line_settled, AreMade};
 ghost use Rattle.njh_lines.specs.Watching.{served_on, HasNoted, IsToBePrompted};
 ghost use Rattle.njh_service.specs.Bureaus.{lines_told, stop_after, view_told, IsAsked, IsConsoleServed};
-ghost use Rattle.njh_service.specs.Bureaus.{IsClosed, IsObeyed, IsOpenedBy, IsOver};
+ghost use Rattle.njh_service.specs.Bureaus.{IsActing, IsClosed, IsObeyed, IsOpenedBy, IsOver};
 
 use crate::fault::ServeFault;
-use crate::faults::faults;
+use crate::line_clock::LineClock;
 use crate::open_lines::open_lines;
 use crate::opened::tell_opened;
-use crate::operator::{tell_astray, tell_refusal};
+use crate::operator::{tell_astray, tell_giver, tell_refusal};
 use crate::presence::{look_at_spool, presence_of, spool_fault};
 use crate::ready::{Version, tell_ready, version_of};
 use crate::revising::tell_unrouted;
+use crate::troubles::{Aside, Troubles, add_all, add_intended};
 use crate::viewing::line_views;
-use njh_answer::{LineView, ServiceView};
+use njh_answer::{LineView, ServiceView, Trouble};
 use njh_command::Replies;
-use njh_console::{Act, Console, SEATS, Situation};
+use njh_console::{Act, Asked, Console, Situation};
 use njh_hub::{Hub, HubFault};
 use njh_lines::Exchange;
 use njh_log::{Log, LogEvent, Place};
@@ -39,11 +40,14 @@ use std::alloc::{AllocError, Global};
 use std::io::Write;
 use std::marker::Model;
 
+/// How many visitors of the console are let in in a round at most.
+const LET_IN: usize = 256;
+
 /// What is done between the turns of a service's lines: what its exchange does with them, and what
 /// the operator asks of it at the console.
 #[derive(Drop)]
 pub struct Bureau<N: Network + Drop, L: Write + Drop, S: TableSource + Drop> {
-    alloc: Global,
+    pub(crate) alloc: Global,
     /// The version of the program, as the log tells it.
     version: Version,
     pub(crate) exchange: Exchange<N, L>,
@@ -52,12 +56,18 @@ pub struct Bureau<N: Network + Drop, L: Write + Drop, S: TableSource + Drop> {
     /// What is known of the spool file, if the hub's files are kept.
     presence: Option<Presence>,
     pub(crate) console: Console<N::Visitor>,
+    /// Somebody may wait to be let in there.
+    is_awaited: bool,
+    /// The second that it was as the round began, since the beginning of 1970.
+    pub(crate) clock: u64,
     /// Whether a line may be one that is to be stopped once no file is on its streams.
     drains: bool,
     /// When the service is to end, if that was ordered.
     stop: Option<EndMoment>,
     /// Whether it ends now.
     is_over: bool,
+    /// Since when it is to, in seconds since the beginning of 1970.
+    stop_since: u64,
     /// How many files that were kept couldn't be put back at the start.
     aside: usize,
     /// Since when there is a service, in milliseconds since the beginning of 1970.
@@ -76,6 +86,7 @@ impl<N: Network + Drop, L: Write + Drop, S: TableSource + Drop> Model for Bureau
       tables = bureau.revision;
       presence = bureau.presence;
       console = bureau.console;
+      clock = bureau.clock;
       drains = bureau.drains;
       stop = bureau.stop;
       is_over = bureau.is_over;
@@ -108,9 +119,12 @@ impl<N: Network + Drop, L: Write + Drop, S: TableSource + Drop> Bureau<N, L, S> 
             revision,
             presence,
             console,
+            is_awaited: false,
+            clock: seconds_of(since),
             drains: true,
             stop: None,
             is_over: false,
+            stop_since: 0,
             aside: 0,
             since,
         }
@@ -185,42 +199,46 @@ impl<N: Network + Drop, L: Write + Drop, S: TableSource + Drop> Bureau<N, L, S> 
     {
         let until = self.moment();
         self.exchange.begin_round(until, wires);
+        self.clock = seconds_of(self.exchange.utc());
         self.receive();
     }
 
-    /// When the console or the end of the service wants a round.
+    /// When the console, the end of the service, or a customer that waits for its routes wants a
+    /// round.
     fn moment(&self) -> u64 {
         let now = self.exchange.now();
         match self.stop {
             Some(EndMoment::AtOnce) => now,
+            _ if self.is_awaited || self.revision.is_awaited() => now,
             _ => self.console.moment(now),
         }
     }
 
-    /// Lets visitors in while there are seats, and reads what each sent.
+    /// Lets in who waits, 256 at most, while there is room, and reads what each visitor sent.
     fn receive(&mut self)
         ensures exchange { self.new.exchange ≡ self.old.exchange }
         ensures tables { self.new.tables ≡ self.old.tables }
         ensures orders { self.new.console.orders ≡ self.old.console.orders }
         ensures stop { self.new.stop ≡ self.old.stop }
     {
-        for _ in 0..SEATS {
+        self.is_awaited = self.revision.tables().is_some();
+        for _ in 0..LET_IN {
             if !self.let_in() {
                 break;
             }
         }
-        self.console.receive(self.exchange.now());
+        self.console.receive();
     }
 
-    /// Lets a visitor in who waits, if there is a seat and there are tables to tell of. Answers
-    /// whether one came in.
+    /// Lets a visitor in who waits, if there is room and there are tables to tell of. Answers whether
+    /// one came in.
     fn let_in(&mut self) -> bool
         ensures exchange { self.new.exchange ≡ self.old.exchange }
         ensures tables { self.new.tables ≡ self.old.tables }
         ensures orders { self.new.console.orders ≡ self.old.console.orders }
         ensures stop { self.new.stop ≡ self.old.stop }
     {
-        if self.console.is_full() || self.revision.tables().is_none() {
+        if !self.is_awaited || !self.console.has_room() {
             return false;
         }
         match self.exchange.visitor() {
@@ -228,7 +246,10 @@ impl<N: Network + Drop, L: Write + Drop, S: TableSource + Drop> Bureau<N, L, S> 
                 self.console.admit(visitor, self.exchange.now());
                 true
             }
-            None => false,
+            None => {
+                self.is_awaited = false;
+                false
+            }
         }
     }
 
@@ -264,6 +285,7 @@ impl<N: Network + Drop, L: Write + Drop, S: TableSource + Drop> Bureau<N, L, S> 
         ensures tables { self.new.tables ≡ self.old.tables }
         ensures done { IsOrderDone answer replies.now self.old.console.orders self.new.console.orders }
         ensures given { self.new.console.orders.given ≡ None }
+        ensures waiting { self.new.console.orders.waiting ≡ self.old.console.orders.waiting }
         ensures stop { self.new.stop ≡ self.old.stop }
     {
         self.exchange.note_order(new, answer, replies);
@@ -273,11 +295,13 @@ impl<N: Network + Drop, L: Write + Drop, S: TableSource + Drop> Bureau<N, L, S> 
     /// Comes after a round: tells which files have no route, and what is wrong with the spool file,
     /// ends the round, and serves the console.
     pub(crate) fn close_round(&mut self, hub: &Hub, wires: &mut [LineWire<N::Connection>])
+        requires { NoneIsOpen self.old.console.orders }
         ensures still { AreStill IsTallied (λ wire. wire.failures) wires.old wires.new }
-        ensures closed { IsClosed hub.now self.old self.new }
+        ensures closed { IsClosed S.Fault S.gives hub.now self.old self.new }
     {
         tell_unrouted(&mut self.revision, &mut self.exchange, hub);
         look_at_spool(&mut self.presence, &self.revision, &mut self.exchange);
+        self.exchange.note_queues(hub);
         self.end_round(hub, wires);
         self.serve_console(hub, wires);
     }
@@ -321,40 +345,84 @@ impl<N: Network + Drop, L: Write + Drop, S: TableSource + Drop> Bureau<N, L, S> 
         }
     }
 
-    /// Answers at most one request of a visitor, does what it asks of the service itself, and writes
-    /// to each visitor.
+    /// The order that waits at the console, in this second, if it isn't too late for it.
+    pub(crate) fn new_order(&mut self) -> Option<NewOrder>
+        ensures order { result ≡ order_due self.old.clock self.old.console.orders }
+        ensures orders { self.new.console.orders ≡ with_order_given self.old.clock self.old.console.orders }
+    {
+        self.console.order(self.clock)
+    }
+
+    /// Answers at most one request of a visitor, writes to each visitor, reads tables or does itself
+    /// what was asked of the service, and lets those go who leave.
     pub(crate) fn serve_console(&mut self, hub: &Hub, wires: &[LineWire<N::Connection>])
-        ensures served { IsConsoleServed hub.now self.old self.new }
-        ensures given { self.new.console.orders.given ≡ self.old.console.orders.given }
+        requires { NoneIsOpen self.old.console.orders }
+        ensures served { IsConsoleServed S.Fault S.gives hub.now self.old self.new }
+        ensures given { self.new.console.orders.given ≡ None }
         ensures over { self.new.is_over ≡ self.old.is_over }
     {
         let now = self.exchange.now();
-        let act = self.answer(hub, wires);
+        let asked = self.answer(hub, wires);
+        self.console.send();
+        let left = self.read_tables(asked);
+        let act = self.act(left);
         self.obey(act);
-        let astray = self.console.tend(now);
+        let astray = self.console.let_go(now);
         tell_astray(&mut self.exchange, astray);
     }
 
-    /// Answers at most one request of a visitor, if there is one, and memory for what is to be told.
-    fn answer(&mut self, hub: &Hub, wires: &[LineWire<N::Connection>]) -> Option<Act>
-        ensures same { IsObeyed None self.old self.new }
-        ensures asked { IsAsked hub.now self.old.tables self.old.exchange self.old.console self.new.console result }
+    /// What the service is to do itself of what was asked. The log tells how a request was refused,
+    /// and who gave an order.
+    fn act(&mut self, asked: Asked) -> Option<Act>
+        ensures acted { IsActing asked self.old self.new result }
+        ensures exchange { self.new.exchange ≡ self.old.exchange }
+        ensures stop { self.new.stop ≡ self.old.stop }
         ensures given { self.new.console.orders.given ≡ self.old.console.orders.given }
         ensures tables { self.new.tables ≡ self.old.tables }
         ensures presence { self.new.presence ≡ self.old.presence }
         ensures over { self.new.is_over ≡ self.old.is_over }
     {
+        match asked {
+            Asked::Nothing => None,
+            Asked::Refused(why) => {
+                tell_refusal(&mut self.exchange, why);
+                None
+            }
+            Asked::Given(number, terms) => {
+                tell_giver(&mut self.exchange, number, terms);
+                None
+            }
+            Asked::Act(ticket, act) => {
+                tell_giver(&mut self.exchange, ticket.number, ticket.terms);
+                self.console.act(self.clock, ticket, act)
+            }
+            Asked::Tables(_) => None,
+        }
+    }
+
+    /// Answers at most one request of a visitor, if there is one, and memory for what is to be told.
+    fn answer(&mut self, hub: &Hub, wires: &[LineWire<N::Connection>]) -> Asked
+        requires { NoneIsOpen self.old.console.orders }
+        ensures same { IsObeyed None self.old self.new }
+        ensures asked { IsAsked hub.now self.old self.new.console result }
+        ensures clock { self.new.clock ≡ self.old.clock }
+        ensures given { self.new.console.orders.given ≡ None }
+        ensures tables { self.new.tables ≡ self.old.tables }
+        ensures presence { self.new.presence ≡ self.old.presence }
+        ensures over { self.new.is_over ≡ self.old.is_over }
+    {
         if !self.console.has_request() {
-            return None;
+            return Asked::Nothing;
         }
         match line_views(
             self.alloc,
             &mut self.exchange,
             self.revision.tables(),
+            hub,
             wires,
         ) {
             Ok(lines) => self.answer_with(hub, wires, &lines),
-            Err(_) => None,
+            Err(_) => Asked::Nothing,
         }
     }
 
@@ -365,18 +433,21 @@ impl<N: Network + Drop, L: Write + Drop, S: TableSource + Drop> Bureau<N, L, S> 
         hub: &Hub,
         wires: &[LineWire<N::Connection>],
         lines: &[LineView],
-    ) -> Option<Act>
-        requires { map view_told lines.now ≡ lines_told self.old.exchange.lines self.old.exchange.steps }
+    ) -> Asked
+        requires told { map view_told lines.now
+            ≡ lines_told self.old.exchange.lines self.old.exchange.steps self.old.exchange.tallies }
+        requires none { NoneIsOpen self.old.console.orders }
         ensures same { IsObeyed None self.old self.new }
-        ensures asked { IsAsked hub.now self.old.tables self.old.exchange self.old.console self.new.console result }
-        ensures given { self.new.console.orders.given ≡ self.old.console.orders.given }
+        ensures asked { IsAsked hub.now self.old self.new.console result }
+        ensures clock { self.new.clock ≡ self.old.clock }
+        ensures given { self.new.console.orders.given ≡ None }
         ensures tables { self.new.tables ≡ self.old.tables }
         ensures presence { self.new.presence ≡ self.old.presence }
         ensures over { self.new.is_over ≡ self.old.is_over }
     {
         match self.service_view(hub, wires) {
             Ok(service) => self.answer_by(hub, &service, lines),
-            Err(_) => None,
+            Err(_) => Asked::Nothing,
         }
     }
 
@@ -386,49 +457,94 @@ impl<N: Network + Drop, L: Write + Drop, S: TableSource + Drop> Bureau<N, L, S> 
         &self,
         hub: &Hub,
         wires: &[LineWire<N::Connection>],
-    ) -> Result<ServiceView, AllocError> {
+    ) -> Result<ServiceView, AllocError>
+        ensures { IfOk result (λ view. view.clock ≡ self.now.clock) }
+    {
         let alloc = self.alloc;
         let version = self.version;
         let version = format!(in alloc; "{version}")?;
-        let mut faults = faults(
-            alloc,
-            &self.exchange,
-            &self.revision,
-            self.aside,
-            hub,
-            wires,
-        )?;
-        if let Some(event) = spool_fault(&self.presence) {
-            faults.push(format!(in alloc; "{event}")?)?;
-        }
-        if let Some(moment) = self.stop {
-            let event = LogEvent::ServiceEnds(moment);
-            faults.push(format!(in alloc; "{event}")?)?;
-        }
+        let troubles = self.troubles(hub, wires)?;
+        let intended = self.intended()?;
+        let seen = self.revision.seen();
         Ok(ServiceView {
             version,
-            since: u64::try_from(self.since / 1000).unwrap_or(0),
-            file_bytes: bytes_of(self.revision.seen()),
-            faults,
+            since: seconds_of(self.since),
+            clock: self.clock,
+            file_bytes: bytes_of(seen),
+            log_bytes: log_bytes_of(seen),
+            troubles,
+            intended,
         })
     }
 
+    /// What is wrong now. Out of memory is the only refusal.
+    fn troubles(
+        &self,
+        hub: &Hub,
+        wires: &[LineWire<N::Connection>],
+    ) -> Result<Vec<Trouble>, AllocError> {
+        let aside = Aside {
+            files: self.aside,
+            since: seconds_of(self.since),
+        };
+        let clock = self.line_clock();
+        let mut found = Troubles::new(self.alloc);
+        if let Some(event) = spool_fault(&self.presence) {
+            found.add("", event, None)?;
+        }
+        add_all(
+            &self.exchange,
+            &self.revision,
+            aside,
+            hub,
+            wires,
+            clock,
+            &mut found,
+        )?;
+        found.told()
+    }
+
+    /// What isn't as the table file has it, since the operator wants it so. Out of memory is the
+    /// only refusal.
+    fn intended(&self) -> Result<Vec<Trouble>, AllocError> {
+        let mut found = Troubles::new(self.alloc);
+        if let Some(moment) = self.stop {
+            let event = LogEvent::ServiceEnds(moment);
+            found.add("", event, Some(self.stop_since))?;
+        }
+        add_intended(&self.exchange, self.line_clock(), &mut found)?;
+        found.told()
+    }
+
+    /// The service's clock as the round began, beside the second in which it did.
+    fn line_clock(&self) -> LineClock {
+        LineClock {
+            now: self.exchange.now(),
+            utc: self.clock.saturating_mul(1000),
+        }
+    }
+
     /// Answers at most one request of a visitor.
-    fn answer_by(&mut self, hub: &Hub, service: &ServiceView, lines: &[LineView]) -> Option<Act>
-        requires { map view_told lines.now ≡ lines_told self.old.exchange.lines self.old.exchange.steps }
+    fn answer_by(&mut self, hub: &Hub, service: &ServiceView, lines: &[LineView]) -> Asked
+        requires told { map view_told lines.now
+            ≡ lines_told self.old.exchange.lines self.old.exchange.steps self.old.exchange.tallies }
+        requires clock { service.now.clock ≡ self.old.clock }
+        requires none { NoneIsOpen self.old.console.orders }
         ensures same { IsObeyed None self.old self.new }
-        ensures asked { IsAsked hub.now self.old.tables self.old.exchange self.old.console self.new.console result }
-        ensures given { self.new.console.orders.given ≡ self.old.console.orders.given }
+        ensures asked { IsAsked hub.now self.old self.new.console result }
+        ensures clock { self.new.clock ≡ self.old.clock }
+        ensures given { self.new.console.orders.given ≡ None }
         ensures tables { self.new.tables ≡ self.old.tables }
         ensures presence { self.new.presence ≡ self.old.presence }
         ensures over { self.new.is_over ≡ self.old.is_over }
     {
         let Some(tables) = self.revision.tables() else {
-            return None;
+            return Asked::Nothing;
         };
+        let now = self.exchange.now();
         let arrivals = self.exchange.arrivals();
         let situation = Situation::new(hub, tables, service, lines, arrivals);
-        self.console.serve(&situation)
+        self.console.serve(now, &situation)
     }
 
     /// Does what was ordered of the service itself.
@@ -449,15 +565,25 @@ impl<N: Network + Drop, L: Write + Drop, S: TableSource + Drop> Bureau<N, L, S> 
                 self.exchange
                     .tell(Place::Hub, LogEvent::ServiceEnds(moment));
                 self.stop = Some(stop_after(self.stop, moment));
+                self.stop_since = self.clock;
             }
-            Some(Act::Refused(refusal)) => tell_refusal(&mut self.exchange, refusal),
         }
     }
+}
+
+/// The second of so many milliseconds.
+fn seconds_of(milliseconds: i64) -> u64 {
+    u64::try_from(milliseconds / 1000).unwrap_or(0)
 }
 
 /// How many bytes the spool file has, if there is one.
 fn bytes_of(seen: Option<SpoolSeen>) -> Option<u64> {
     Some(seen?.file?.size)
+}
+
+/// How many bytes its log has, if there is one.
+fn log_bytes_of(seen: Option<SpoolSeen>) -> Option<u64> {
+    Some(seen?.log?.size)
 }
 
 /// When the service is to end, once this was ordered.

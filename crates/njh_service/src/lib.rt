@@ -5,16 +5,17 @@
 mod attending;
 mod bureau;
 mod fault;
-mod faults;
 mod line_clock;
 mod open_lines;
 mod opened;
 mod operator;
 mod presence;
 mod ready;
+mod rereading;
 mod revising;
 mod service;
 mod serving;
+mod troubles;
 mod viewing;
 
 pub use bureau::Bureau;

@@ -180,5 +180,6 @@ fn names_of<'a>(tables: &'a Tables, id: LineId) -> LineNames<'a>
         customer: tables.customer(id.customer).name(),
         line: entry.name(),
         node: entry.node(),
+        streams: entry.streams(),
     }
 }

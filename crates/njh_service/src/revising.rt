@@ -64,9 +64,21 @@ fn look_at_tables<N: Network + Drop, L: Write + Drop, S: TableSource + Drop>(
     let Some(outcome) = revision.look(exchange.now()) else {
         return;
     };
-    exchange.write(outcome.severity(), Place::Hub, &outcome);
-    take_from(revision, exchange, &outcome);
-    tell_taken(revision, exchange, &outcome);
+    take_outcome(revision, exchange, &outcome);
+}
+
+/// Tells what came of tables that were read. From where the peers of lines may connect holds at once.
+pub(crate) fn take_outcome<N: Network + Drop, L: Write + Drop, S: TableSource + Drop>(
+    revision: &Revision<S>,
+    exchange: &mut Exchange<N, L>,
+    outcome: &SourceOutcome<S::Fault>,
+)
+    ensures same { exchange.new ≡ record exchange.old { lines = exchange.new.lines } }
+    ensures lines { AreMade (line_reread revision.now outcome.now) exchange.old.lines exchange.new.lines }
+{
+    exchange.write(outcome.severity(), Place::Hub, outcome);
+    take_from(revision, exchange, outcome);
+    tell_taken(revision, exchange, outcome);
 }
 
 /// From where the peer of each line may connect is as the tables say that were just read, if they

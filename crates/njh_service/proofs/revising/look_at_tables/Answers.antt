@@ -1,12 +1,6 @@
-use Rattle.std.proofs.Common.{ap}
-use Rattle.njh_lines.specs.Watching.{Watched}
-use Rattle.njh_service.proofs.RevisingLaws.{reread_by}
+use Rattle.std.proofs.Common.{inr}
 use Rattle.njh_service.proofs.revising.look_at_tables.Goals as goal
 
 -- the lines are as the tables say that were read
 pub returns-clause-lines : goal.returns-clause-lines
-returns-clause-lines g c =
-    reread_by c.look.new.self c.in-Some.outcome c.args.exchange.now.lines c.write.new.self.lines
-    c.take_from.new.exchange.lines c.tell_taken.new.exchange.lines
-    (ap (λ (seen : Watched). seen.lines) c.write.ensures)
-    (ap (λ (seen : Watched). seen.lines) c.tell_taken.ensures) c.take_from.ensures.lines
+returns-clause-lines g c = inr (c.in-Some.outcome, c.take_outcome.ensures.lines)
