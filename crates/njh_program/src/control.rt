@@ -6,25 +6,23 @@ ghost use Rattle.njh_program.specs.ProgramOutcome.{IsControlEnd, IsTold};
 ghost use Rattle.njh_program.specs.ShownText.{IsTextBegun};
 ghost use Rattle.njh_subcommands.specs.Status.{ComesFirst};
 
+use crate::console_path::ConsoleOf;
+use crate::orderer::giver_of;
 use njh_arguments::ConsoleCommand;
-use njh_ctl::{CtlFault, Talk};
+use njh_ctl::{CtlFault, Ending, Machine, Operator};
 use njh_io::write_bytes;
 use njh_subcommands::Failure;
-use std::alloc::Global;
-use std::io;
-use std::io::{ErrorKind, Read, Write};
+use std::io::{Read, Write};
 use std::net::Net;
 use std::os::unix::net::UnixStream;
-use std::time::Duration;
+use std::random::RandomSource;
+use std::rt::{Clock, Env};
 
-/// For how many seconds a console may answer nothing.
-const SILENCE: u64 = 5;
-
-/// Carries out a command by the console at a path, and tells what it answers: as it came, or for
-/// people. What came before a fault is told all the same.
-pub(crate) fn control<F: Net + AllocGlobal, W: Write>(
+/// Carries out a command by a console, and tells what it answers: as it came, or for people. What
+/// came before a fault is told all the same.
+pub(crate) fn control<F: Net + Env + Clock + RandomSource + AllocGlobal, W: Write>(
     rt: &F,
-    path: &str,
+    console: Option<&str>,
     json: bool,
     command: &ConsoleCommand<'_>,
     out: &mut W,
@@ -35,49 +33,42 @@ pub(crate) fn control<F: Net + AllocGlobal, W: Write>(
         ⊎ IsTextBegun (W.contents out.old) (W.contents out.new)) }
     ensures silent { IfErr result (λ failure. ComesFirst failure → Keeps (W.contents out.old) (W.contents out.new)) }
 {
-    match stream_to(rt, path) {
-        Ok(stream) => talk_over(rt.alloc(), stream, json, command, out),
+    match operator_of(rt, console, json) {
+        Ok(mut operator) => {
+            let ended = carried_out(&mut operator, command);
+            tell_ended(out, operator, ended)
+        }
         Err(fault) => Err(Failure::Control(fault)),
     }
 }
 
-/// A stream to the console at a path, on which nothing waits for longer than a console may answer
-/// nothing.
-fn stream_to<F: Net + AllocGlobal>(rt: &F, path: &str) -> Result<UnixStream, CtlFault> {
-    match connected(rt, path) {
-        Ok(stream) => Ok(stream),
-        Err(error) => {
-            let why = why_unreached(error.kind());
-            Err(CtlFault::NoConsole(format!(in rt.alloc(); "console {path}: {why}")?))
-        }
-    }
-}
-
-fn connected<F: Net>(rt: &F, path: &str) -> io::Result<UnixStream> {
-    let stream = UnixStream::connect(rt, path)?;
-    stream.set_read_timeout(Some(Duration::from_secs(SILENCE)))?;
-    stream.set_write_timeout(Some(Duration::from_secs(SILENCE)))?;
-    Ok(stream)
-}
-
-/// Why a console can't be reached.
-fn why_unreached(kind: ErrorKind) -> &'static str {
-    match kind {
-        ErrorKind::NotFound => "not found",
-        ErrorKind::PermissionDenied => "not permitted",
-        ErrorKind::ConnectionRefused => "no hub has it open",
-        _ => "can't be reached",
-    }
-}
-
-/// Carries out a command over a stream to a console.
-#[tactic(auto, using(crate::proofs::ControlLaws::told_begun))]
-fn talk_over<S: Read + Write + Drop, W: Write>(
-    alloc: Global,
-    stream: S,
+/// Who gives commands to a console.
+fn operator_of<'a, F: Net + Env + Clock + RandomSource + AllocGlobal>(
+    rt: &'a F,
+    console: Option<&'a str>,
     json: bool,
+) -> Result<Operator<UnixStream, ConsoleOf<'a, F>>, CtlFault> {
+    let giver = giver_of(rt)?;
+    Operator::new(rt.alloc(), ConsoleOf { rt, console }, json, giver)
+}
+
+/// Carries out a command. If it isn't known whether its order was done that is asked once more.
+fn carried_out<S: Read + Write + Drop, M: Machine<S> + Drop>(
+    operator: &mut Operator<S, M>,
     command: &ConsoleCommand<'_>,
+) -> Result<Ending, CtlFault> {
+    match operator.carry_out(command) {
+        Err(CtlFault::Lost(name)) => operator.ask_again(name),
+        ended => ended,
+    }
+}
+
+/// Tells what is to be told of a command that ended so.
+#[tactic(auto, using(crate::proofs::ControlLaws::told_begun))]
+fn tell_ended<S: Read + Write + Drop, M: Machine<S> + Drop, W: Write>(
     out: &mut W,
+    operator: Operator<S, M>,
+    ended: Result<Ending, CtlFault>,
 ) -> Result<(), Failure>
     ensures done { OnOk result (IsTold (W.contents out.old) (W.contents out.new)) }
     ensures failed { IfErr result IsControlEnd }
@@ -85,16 +76,24 @@ fn talk_over<S: Read + Write + Drop, W: Write>(
         ⊎ IsTextBegun (W.contents out.old) (W.contents out.new)) }
     ensures silent { IfErr result (λ failure. ComesFirst failure → Keeps (W.contents out.old) (W.contents out.new)) }
 {
-    let mut talk = Talk::new(alloc, stream, json);
-    let ended = talk.carry_out(command);
-    let told = tell(out, talk.text());
-    drop(talk);
+    let told = tell(out, operator.text());
+    drop(operator);
     match told {
         Ok(()) => match ended {
-            Ok(()) => Ok(()),
+            Ok(ending) => ended_so(ending.result()),
             Err(fault) => Err(Failure::Control(fault)),
         },
         Err(failure) => Err(failure),
+    }
+}
+
+/// What the program ends with.
+fn ended_so(ended: Result<(), CtlFault>) -> Result<(), Failure>
+    ensures failed { IfErr result (λ failure. IsControlEnd failure × (ComesFirst failure → ⊥)) }
+{
+    match ended {
+        Ok(()) => Ok(()),
+        Err(fault) => Err(Failure::Control(fault)),
     }
 }
 

@@ -3,8 +3,10 @@
 #![tactic(auto)]
 
 mod console_log;
+mod console_path;
 mod control;
 mod handles;
+mod orderer;
 mod program;
 mod refusals;
 mod requests;

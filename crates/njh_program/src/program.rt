@@ -26,7 +26,7 @@ const WRITTEN_AT_ONCE: usize = 65_536;
 /// Runs the program, and answers the status to end with. Why it failed, if it did, goes to
 /// `errors`.
 pub fn run<E: Print>(rt: &HostRuntime, errors: &E) -> ExitCode
-    ensures { exit_status result ≤ 2 }
+    ensures { exit_status result ≤ 3 }
 {
     end(outcome_of(rt, errors), errors)
 }

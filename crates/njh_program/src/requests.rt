@@ -21,12 +21,13 @@ use njh_sites::Listening;
 use njh_subcommands::{Failure, perform};
 use std::io::{Read, Write};
 use std::net::Net;
-use std::rt::{Clock, Files};
+use std::random::RandomSource;
+use std::rt::{Clock, Env, Files};
 
 /// Does what a request asks for. The log of a service goes to `log`, each line behind its priority
 /// if it is for a journal.
 pub(crate) fn carry_out_request<
-    F: Files + Spooling + Net + Clock + AllocGlobal,
+    F: Files + Spooling + Net + Clock + Env + RandomSource + AllocGlobal,
     R: Read,
     W: Write,
     L: Write + Drop,

@@ -1,6 +1,6 @@
 //! The table file of a hub that runs: it is read again if it changed.
 
-ghost use Rattle.std.specs.Prelude.{◌≡◌, ◌≤◌, vec_len, IfOk, IfSome};
+ghost use Rattle.std.specs.Prelude.{◌≡◌, ◌≤◌, vec_len, IfOk};
 ghost use Rattle.njh_subcommands.specs.TableBytes.{AreGivenWithin, max_changed_bytes};
 
 use crate::spool_paths::SpoolPaths;
@@ -30,6 +30,9 @@ pub enum ChangeFault {
     /// It can't be read.
     #[error("not readable")]
     Unread,
+    /// It is no regular file.
+    #[error("no regular file")]
+    NoFile,
     /// There was no memory for its bytes.
     #[error("no memory for it")]
     Memory,
@@ -84,7 +87,13 @@ impl<'a, R: Files + AllocGlobal> TableFileSource<'a, R> {
 }
 
 impl<R: Files + AllocGlobal> TableSource for TableFileSource<'_, R> {
+    ghost use Rattle.std.specs.Prelude.{IfOk};
+    ghost use Rattle.njh_subcommands.specs.TableBytes.{AreGivenWithin, max_changed_bytes};
+
     type Fault = ChangeFault;
+
+    // The tables of what a file held, of no more than 2 MB of it.
+    ghost gives = { λ _ read. IfOk read (AreGivenWithin max_changed_bytes) };
 
     fn seen(&self) -> Option<SpoolSeen> {
         match &self.spool {
@@ -96,18 +105,37 @@ impl<R: Files + AllocGlobal> TableSource for TableFileSource<'_, R> {
     /// The tables of the file, or why it gives none, if it isn't as it was at the last look.
     ///
     /// Its time and its length are looked at, and no more than 2 MB of it are read.
-    fn changed(&mut self) -> Option<Result<Tables, ChangeFault>>
-        ensures { IfSome result (λ read. IfOk read (AreGivenWithin max_changed_bytes)) }
-    {
+    fn changed(&mut self) -> Option<Result<Tables, ChangeFault>> {
         let stamp = stamp_of(self.rt, self.path);
         if self.stamp == stamp {
             return None;
         }
         self.stamp = stamp;
-        match stamp {
-            Some(_) => Some(changed_tables(self.rt, self.path)),
-            None => Some(Err(ChangeFault::Gone)),
-        }
+        Some(regular_tables(self.rt, self.path))
+    }
+
+    /// The tables of the file, or why it gives none, whatever its time and its length. No more than 2
+    /// MB of it are read.
+    fn read(&mut self) -> Result<Tables, ChangeFault> {
+        self.stamp = stamp_of(self.rt, self.path);
+        regular_tables(self.rt, self.path)
+    }
+
+    /// The tables of another file, or why it gives none. No more than 2 MB of it are read.
+    fn read_at(&self, name: &str) -> Result<Tables, ChangeFault> {
+        regular_tables(self.rt, name)
+    }
+}
+
+/// The tables of a file, if it is there and is a regular one: what else may stand there could hold
+/// the hub up, as a pipe does.
+fn regular_tables<R: Files + AllocGlobal>(rt: &R, path: &str) -> Result<Tables, ChangeFault>
+    ensures { IfOk result (AreGivenWithin max_changed_bytes) }
+{
+    match fs::metadata(rt, path) {
+        Ok(metadata) if metadata.is_file() => held_tables(rt, path),
+        Ok(_) => Err(ChangeFault::NoFile),
+        Err(_) => Err(ChangeFault::Gone),
     }
 }
 
@@ -120,8 +148,8 @@ fn stamp_of<R: Files>(rt: &R, path: &str) -> Option<Stamp> {
     })
 }
 
-/// The tables of a file that changed.
-fn changed_tables<R: Files + AllocGlobal>(rt: &R, path: &str) -> Result<Tables, ChangeFault>
+/// The tables that a file holds.
+fn held_tables<R: Files + AllocGlobal>(rt: &R, path: &str) -> Result<Tables, ChangeFault>
     ensures { IfOk result (AreGivenWithin max_changed_bytes) }
 {
     let bytes = changed_bytes(rt, path)?;

@@ -18,7 +18,6 @@ use Rattle.njh_subcommands.specs.Status.{ComesFirst}
 use Rattle.njh_subcommands.specs.TableBytes.{AreGiven, tables_in}
 use Rattle.njh_subcommands.specs.TableChecks.{IsSaidOf, IsTablesBegun, IsToldOf, MayTell, no_text_words}
 use Rattle.njh_subcommands.specs.declared.failure.Failure.{Failure}
-use Rattle.njh_subcommands.specs.declared.failure.Failure.TheVariants as failure
 
 pub beginning_whole : (old new : Option (List ℕ)) (whole : List ℕ) → Appends old new whole
     → AppendsBeginning old new whole

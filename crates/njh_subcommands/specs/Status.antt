@@ -17,7 +17,8 @@ table_status Memory = 2
 table_status fault = 1
 
 -- 1 if arguments, tables, the script, the trace or a line in words are refused, a check found a fault, a spool file has
--- no such file, several, or one that can't be put back, or a hub refuses a command; 2 if another thing fails
+-- no such file, several, or one that can't be put back, or a hub refuses a command or doesn't do it; 3 if something is
+-- wrong with a hub; 2 if another thing fails
 abbrev pub status_of : Failure → ℕ
 status_of (Arguments error) = 1
 status_of (Tables fault) = table_status fault
@@ -38,14 +39,19 @@ status_of (failure.Files (files.Refused why)) = 1
 status_of (failure.Files (files.Taken why)) = 1
 status_of (failure.Files fault) = 2
 status_of (failure.Control (ctl.Refused sentence)) = 1
+status_of (failure.Control (ctl.NotDone sentence)) = 1
 status_of (failure.Control ctl.BadName) = 1
+status_of (failure.Control ctl.NoOrder) = 1
+status_of (failure.Control ctl.NoLine) = 1
+status_of (failure.Control ctl.TurnedDown) = 1
+status_of (failure.Control ctl.Wrong) = 3
 status_of (failure.Control fault) = 2
 status_of failure.Device = 2
 status_of failure.Memory = 2
 
 -- What is refused before anything is written: all that has status 1 but a trace, of which the lines before a line that
 -- is too long were told, a line in words, of which what the lines before it become was written, what a check found, and
--- a command, of which the answers before a refusal were told.
+-- a command, of which the answers before a refusal were told, and all if it wasn't done.
 abbrev pub ComesFirst : Failure → Type 0
 ComesFirst (Trace fault) = ⊥
 ComesFirst (Encode end) = ⊥

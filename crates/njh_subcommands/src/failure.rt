@@ -45,8 +45,8 @@ pub enum Failure {
 impl Failure {
     /// The status to end with: 1 if the arguments, the tables, the script, the trace or a line
     /// in words are refused, a check found a fault, a spool file has no such file, several, one that
-    /// can't be put back, or some where others are to be copied, or a hub refuses a command; 2 if a
-    /// file, a stream or memory fails.
+    /// can't be put back, or some where others are to be copied, or a hub refuses a command or
+    /// doesn't do it; 2 if a file, a stream or memory fails; 3 if something is wrong with a hub.
     pub fn status(&self) -> u8
         ensures { result ≡ status_of self.now }
     {
@@ -70,7 +70,12 @@ impl Failure {
             Failure::Files(FilesFault::Taken(_)) => 1,
             Failure::Files(_) => 2,
             Failure::Control(CtlFault::Refused(_)) => 1,
+            Failure::Control(CtlFault::NotDone(_)) => 1,
             Failure::Control(CtlFault::BadName) => 1,
+            Failure::Control(CtlFault::NoOrder) => 1,
+            Failure::Control(CtlFault::NoLine) => 1,
+            Failure::Control(CtlFault::TurnedDown) => 1,
+            Failure::Control(CtlFault::Wrong) => 3,
             Failure::Control(_) => 2,
             Failure::Found => 1,
             Failure::Device => 2,
@@ -80,7 +85,8 @@ impl Failure {
 }
 
 impl fmt::Display for Failure {
-    /// One line, but for the text of arguments that are refused; nothing of what a check found.
+    /// One line, but for the text of arguments that are refused; nothing of what a check found, and
+    /// nothing where it was only asked whether something is wrong.
     fn fmt<W: fmt::Write>(&self, f: &mut fmt::Formatter<W>) -> fmt::Result {
         match self {
             Failure::Arguments(error) => write!(f, "{error}"),
@@ -89,6 +95,7 @@ impl fmt::Display for Failure {
             Failure::Trace(fault) => writeln!(f, "njehub: {fault}"),
             Failure::Encode(end) => writeln!(f, "njehub: {end}"),
             Failure::Files(fault) => writeln!(f, "njehub: {fault}"),
+            Failure::Control(CtlFault::Wrong) => Ok(()),
             Failure::Control(fault) => writeln!(f, "njehub: {fault}"),
             Failure::Found => Ok(()),
             Failure::Device => writeln!(f, "njehub: {}", ReplayFault::Device),

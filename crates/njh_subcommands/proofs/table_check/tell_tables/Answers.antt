@@ -1,8 +1,6 @@
-use Rattle.std.proofs.Common.{◌≡◌, None, Some, Err, false, inr, inl, refl, rules}
-use Rattle.std.specs.Str.{is_utf8}
+use Rattle.std.proofs.Common.{◌≡◌, None, Some, false, inr, refl, rules}
 use Rattle.std.proofs.lemmas.Bool.{false_from_ne_true}
 use Rattle.std.proofs.lemmas.Str.{IsUtf8-from_is_utf8}
-use Rattle.njh_check.specs.declared.fault.CheckFault.TheVariants.{Device}
 use Rattle.njh_subcommands.specs.TableChecks.{no_text_words}
 use Rattle.njh_subcommands.proofs.CheckLaws.{begun_of, begun_whole, no_text-begun, told_fault, told_right}
 use Rattle.njh_subcommands.proofs.table_check.tell_tables.Goals as goal
