@@ -2,16 +2,17 @@
 //! what is ordered.
 
 use crate::asked::{bad, hub_of, request_of, tables_of};
+use circular_buffer::HeapCircularBuffer;
 use njh_answer::{
-    Deed, LineView, OrderRecord, Outcome, Refused, RequestAnswer, ServiceView, Views,
-    answer_request, refuses,
+    BothWays, Deed, LineCounts, LineView, OrderRecord, Outcome, Refused, RequestAnswer,
+    ServiceView, Ticket, Trouble, TurnedAway, Views, Work, answer_request, refuses,
 };
 use njh_arrivals::Arrivals;
 use njh_command::Replies;
 use njh_ebcdic::Name;
 use njh_header::User;
 use njh_hub::{GivenOrder, Hub, OrderText};
-use njh_request::{LineState, Text};
+use njh_request::{EndMoment, LineState, Order, OrderName, Terms};
 use njh_table::{LineId, Tables};
 use std::alloc::{AllocError, Global};
 use std::io;
@@ -58,6 +59,12 @@ streams = 4
 /// `HI`.
 const HI: &[u8] = &[0xc8, 0xc9];
 
+/// `NJH003 LYON.42 HELD 1`.
+const HELD: &[u8] = &[
+    0xd5, 0xd1, 0xc8, 0xf0, 0xf0, 0xf3, 0x40, 0xd3, 0xe8, 0xd6, 0xd5, 0x4b, 0xf4, 0xf2, 0x40, 0xc8,
+    0xc5, 0xd3, 0xc4, 0x40, 0xf1,
+];
+
 /// A hub that has a file of ANNA's at LYON, and a message for LYON that waits.
 fn hub(alloc: Global) -> io::Result<Hub> {
     let mut hub = hub_of(alloc, TABLES)?;
@@ -94,37 +101,99 @@ fn arrivals(alloc: Global, hub: &Hub) -> Result<Arrivals, AllocError> {
 /// What the service knows of itself.
 fn service_view(alloc: Global) -> Result<ServiceView, AllocError> {
     let version = String::from_str(alloc, "0.9")?;
-    let faults = faults(alloc)?;
+    let mut troubles = Vec::new(alloc);
+    let text = "ACME: no room for \"files\"";
+    troubles.push(trouble(alloc, text, "warning", Some(1790649000))?)?;
+    let text = "table file: it can't be read";
+    troubles.push(trouble(alloc, text, "error", None)?)?;
+    let mut intended = Vec::new(alloc);
+    let text = "ACME a2: stopped";
+    intended.push(trouble(alloc, text, "info", Some(1790649500))?)?;
     Ok(ServiceView {
         version,
         since: 1790650000,
-        file_bytes: None,
-        faults,
+        clock: 1790650000,
+        file_bytes: Some(5832704),
+        log_bytes: Some(98304),
+        troubles,
+        intended,
     })
 }
 
-fn faults(alloc: Global) -> Result<Vec<String>, AllocError> {
-    let mut faults = Vec::new(alloc);
-    faults.push(String::from_str(alloc, "ACME: no room for \"files\"")?)?;
-    Ok(faults)
+fn trouble(
+    alloc: Global,
+    text: &str,
+    severity: &str,
+    since: Option<u64>,
+) -> Result<Trouble, AllocError> {
+    Ok(Trouble {
+        text: String::from_str(alloc, text)?,
+        severity: String::from_str(alloc, severity)?,
+        since,
+    })
+}
+
+/// What was counted on the line, each by a number of its own.
+fn counts() -> LineCounts {
+    LineCounts {
+        blocks: BothWays { came: 31, went: 32 },
+        bytes: BothWays {
+            came: 4101,
+            went: 4102,
+        },
+        files: BothWays { came: 3, went: 4 },
+        records: BothWays {
+            came: 201,
+            went: 202,
+        },
+        messages: BothWays { came: 21, went: 22 },
+        dropped: 5,
+        commands: 7,
+        cut_off: 1,
+        returned: 2,
+        turned_away: TurnedAway {
+            files: 11,
+            quota: 12,
+            route: 13,
+            other: 14,
+        },
+    }
+}
+
+/// Since when eight streams stand as they stand, from a moment on.
+fn moments(alloc: Global, first: u64) -> Result<Vec<u64>, AllocError> {
+    let mut moments = Vec::new(alloc);
+    for place in 0..8 {
+        moments.push(first + place)?;
+    }
+    Ok(moments)
 }
 
 /// What it knows of the line that it serves.
 fn line_view(alloc: Global) -> Result<LineView, AllocError> {
     let site = String::from_str(alloc, "listens 37801")?;
     let last_end = String::from_str(alloc, "five tries")?;
+    let text = "the peer is to sign on";
+    let wrong = trouble(alloc, text, "warning", Some(1790649999))?;
     Ok(LineView {
         line: LineId {
             customer: 0,
             number: 0,
         },
         state: LineState::Started,
+        state_since: 1790640000,
         site,
         connected: Some(1790650000),
         up: None,
+        down: Some(1790649999),
         last_end,
         naks: 2,
         repeats: 5,
+        counts: counts(),
+        coming_since: moments(alloc, 1790650010)?,
+        going_since: moments(alloc, 1790650020)?,
+        messages_since: Vec::new(alloc),
+        wrong: Some(wrong),
         peer: Some(peer()),
         waiting: waiting(alloc)?,
         refused: refused(alloc)?,
@@ -171,31 +240,46 @@ fn line_views(alloc: Global) -> Result<Vec<LineView>, AllocError> {
     Ok(lines)
 }
 
-/// Four orders: one had no room, one was carried out, one waits, and one had no way.
-fn order_records(alloc: Global) -> Result<Vec<OrderRecord>, AllocError> {
-    let mut orders = Vec::new(alloc);
-    if let Ok(customer) = Name::of_text("ACME") {
-        orders.push(order_record(2, customer, Outcome::QueueFull))?;
-        orders.push(order_record(3, customer, Outcome::Done(replies(alloc)?)))?;
-        orders.push(order_record(4, customer, Outcome::Waits))?;
-        orders.push(order_record(5, customer, Outcome::NoWay))?;
-    }
+/// Seven orders: for two tables were read, one had no room, one was carried out, one's giver had gone,
+/// one had no way, and one, called anna-6, came too late.
+fn order_records(alloc: Global) -> Result<HeapCircularBuffer<OrderRecord>, AllocError> {
+    let mut orders = HeapCircularBuffer::with_capacity(alloc, 64)?;
+    let mut texts = Vec::new(alloc);
+    texts.push(String::from_str(alloc, "ACME: new routes")?)?;
+    drop(orders.push_back(order_record(0, None, Outcome::Read(texts))));
+    let fault = String::from_str(alloc, "table file: not found; nothing changes")?;
+    drop(orders.push_back(order_record(1, None, Outcome::Unread(fault))));
+    drop(orders.push_back(order_record(2, None, Outcome::QueueFull)));
+    let done = Outcome::Done(replies(alloc)?);
+    drop(orders.push_back(order_record(3, None, done)));
+    drop(orders.push_back(order_record(4, None, Outcome::GiverGone)));
+    drop(orders.push_back(order_record(5, None, Outcome::NoWay)));
+    let name = OrderName::of("anna-6");
+    drop(orders.push_back(order_record(6, name, Outcome::TooLate)));
     Ok(orders)
 }
 
-fn order_record(number: u64, customer: Name, outcome: Outcome) -> OrderRecord {
+/// The end of the service, ordered at once.
+fn order_record(number: u64, name: Option<OrderName>, outcome: Outcome) -> OrderRecord {
+    let terms = Terms {
+        name,
+        until: None,
+        by: None,
+    };
     OrderRecord {
-        number,
-        customer,
+        ticket: Ticket {
+            number,
+            customer: Name::of_text("ACME").ok(),
+            terms,
+            order: Order::Stop(EndMoment::AtOnce),
+        },
         outcome,
     }
 }
 
-fn replies(alloc: Global) -> Result<Vec<Text>, AllocError> {
+fn replies(alloc: Global) -> Result<Vec<OrderText>, AllocError> {
     let mut replies = Vec::new(alloc);
-    if let Some(reply) = Text::of(alloc, "NJH003 LYON.42 HELD 1")? {
-        replies.push(reply)?;
-    }
+    replies.push(OrderText::of(alloc, HELD)?)?;
     Ok(replies)
 }
 
@@ -203,17 +287,18 @@ fn deed_text(deed: &Deed) -> &'static str {
     match deed {
         Deed::Nothing => "nothing",
         Deed::Refused(_) => "refused",
-        Deed::Command(..) => "a command",
-        Deed::Message(..) => "a message",
-        Deed::Line(..) => "a line",
-        Deed::Stop(..) => "the end",
+        Deed::Order(_, Work::Customer(_, GivenOrder::Command(..))) => "a command",
+        Deed::Order(_, Work::Customer(_, GivenOrder::Message(..))) => "a message",
+        Deed::Order(_, Work::Line(..)) => "a line",
+        Deed::Order(_, Work::Stop(_)) => "the end",
+        Deed::Order(_, Work::Tables) => "tables",
     }
 }
 
 fn answer(alloc: Global, line: &str, views: &Views<'_>) -> Result<RequestAnswer, AllocError> {
     match request_of(alloc, views.tables, line)? {
         Ok(request) => answer_request(alloc, request, views),
-        Err(refusal) => refuses(alloc, refusal),
+        Err(refusal) => refuses(alloc, views.service.since, refusal),
     }
 }
 
@@ -251,7 +336,7 @@ fn told_by(alloc: Global, text: &str, hub: &Hub, tables: &Tables) -> Result<Stri
         lines: &lines,
         arrivals: &arrivals,
         orders: &orders,
-        next: 6,
+        next: 7,
     };
     told_lines(alloc, text, &views)
 }

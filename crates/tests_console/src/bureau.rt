@@ -1,15 +1,17 @@
 //! A hub with its console.
 
+ghost use Rattle.njh_console.specs.Orders.{NoneIsOpen};
+
 use crate::asked::{hub_of, tables_of};
-use crate::pipe::{Pipe, Pipes, Visit};
-use njh_answer::ServiceView;
+use crate::pipe::{Pipe, Pipes, VISITORS, Visit};
+use njh_answer::{Outcome, ServiceView, Ticket};
 use njh_arrivals::Arrivals;
 use njh_command::Replies;
-use njh_console::{Act, Console, Situation};
+use njh_console::{Act, Asked, Console, Situation};
 use njh_hub::Hub;
-use njh_request::{EndMoment, LineWish};
+use njh_request::{EndMoment, LineWish, Order};
 use njh_table::Tables;
-use std::alloc::Global;
+use std::alloc::{AllocError, Global};
 use std::fmt::Write;
 use std::io;
 
@@ -70,8 +72,11 @@ impl<'a> Bureau<'a> {
             service: ServiceView {
                 version: String::from_str(alloc, "0.9")?,
                 since: 1790650000,
+                clock: 1790650000,
                 file_bytes: None,
-                faults: Vec::new(alloc),
+                log_bytes: None,
+                troubles: Vec::new(alloc),
+                intended: Vec::new(alloc),
             },
             arrivals: Arrivals::none(alloc, CUSTOMERS)?,
             console: Console::new(alloc)?,
@@ -89,7 +94,7 @@ impl<'a> Bureau<'a> {
         let mut seen = String::new(self.alloc);
         for round in 0..ROUNDS {
             self.round(&mut seen)?;
-            if self.console.moment(self.now) > self.now {
+            if self.console.moment(self.now) > self.now && !self.pipes.has_guest() {
                 let _kept = write!(seen, " ({round})").is_ok();
                 break;
             }
@@ -99,53 +104,90 @@ impl<'a> Bureau<'a> {
     }
 
     fn round(&mut self, seen: &mut String) -> io::Result<()> {
-        for _ in 0..crate::pipe::VISITORS {
-            if self.console.is_full() {
-                break;
-            }
-            match self.pipes.let_in() {
-                Some(visit) => self.console.admit(visit, self.now),
-                None => break,
-            }
-        }
-        self.console.receive(self.now);
+        self.let_in();
+        self.console.receive();
         self.give_order(seen)?;
-        if self.console.has_request() {
-            self.answer(seen)?;
-        }
-        let astray = self.console.tend(self.now);
+        let asked = self.answer();
+        self.console.send();
+        self.obey(asked, seen)?;
+        let astray = self.console.let_go(self.now);
         if astray > 0 {
             write!(*seen, "\n  {astray} gone who sent no HTTP")?;
         }
         Ok(())
     }
 
+    /// Lets in who waits, while there is room.
+    fn let_in(&mut self) {
+        for _ in 0..VISITORS {
+            if !self.console.has_room() {
+                return;
+            }
+            match self.pipes.let_in() {
+                Some(visit) => self.console.admit(visit, self.now),
+                None => return,
+            }
+        }
+    }
+
     /// Gives the hub the order that waits.
-    fn give_order(&mut self, seen: &mut String) -> io::Result<()> {
-        let Some(new) = self.console.order() else {
+    fn give_order(&mut self, seen: &mut String) -> io::Result<()>
+        ensures { NoneIsOpen self.new.console.orders }
+    {
+        let Some(new) = self.console.order(self.service.clock) else {
             return Ok(());
         };
         let mut replies = Replies::new();
         let answer = self.hub.order(new.customer, &new.order, &mut replies);
+        self.console.order_done(answer, &replies);
         let count = replies.texts().len();
         let told = if answer.is_ok() { "done" } else { "refused" };
         write!(*seen, "\n  order {told}, {count} replies")?;
-        self.console.order_done(answer, &replies);
         Ok(())
     }
 
-    /// Answers a request.
-    fn answer(&mut self, seen: &mut String) -> io::Result<()> {
+    /// Answers a request, if one came.
+    fn answer(&mut self) -> Asked
+        requires { NoneIsOpen self.old.console.orders }
+    {
+        if !self.console.has_request() {
+            return Asked::Nothing;
+        }
         let (hub, tables, service) = (&self.hub, &self.tables, &self.service);
         let situation = Situation::new(hub, tables, service, &[], &self.arrivals);
-        match self.console.serve(&situation) {
-            Some(act) => {
-                let text = act_text(act);
-                write!(*seen, "\n  {text}")?;
-                Ok(())
-            }
-            None => Ok(()),
+        self.console.serve(self.now, &situation)
+    }
+
+    /// Says what the service is to do itself.
+    fn obey(&mut self, asked: Asked, seen: &mut String) -> io::Result<()> {
+        match asked {
+            Asked::Nothing => {}
+            Asked::Refused(why) => write!(*seen, "\n  {why}")?,
+            Asked::Given(number, terms) => match &terms.by {
+                Some(by) => write!(*seen, "\n  order {number} of {by}")?,
+                None => {}
+            },
+            Asked::Act(ticket, act) => match self.console.act(self.service.clock, ticket, act) {
+                Some(act) => {
+                    let text = act_text(act);
+                    write!(*seen, "\n  {text}")?;
+                }
+                None => write!(*seen, "\n  nothing is done")?,
+            },
+            Asked::Tables(ticket) => self.read_tables(ticket, seen)?,
         }
+        Ok(())
+    }
+
+    /// Tables are read, and nothing differs; a file that is compared has a fault.
+    fn read_tables(&mut self, ticket: Ticket, seen: &mut String) -> io::Result<()> {
+        let outcome = match self.console.lapse(self.service.clock, &ticket) {
+            Some(lapse) => lapse,
+            None => tables_outcome(self.alloc, &ticket.order)?,
+        };
+        self.console.note(ticket, outcome);
+        write!(*seen, "\n  tables are read")?;
+        Ok(())
     }
 
     /// What each visitor was told.
@@ -173,6 +215,17 @@ fn show(alloc: Global, number: usize, pipe: &Pipe, seen: &mut String) -> io::Res
     Ok(())
 }
 
+/// What comes of an order for which tables are read.
+fn tables_outcome(alloc: Global, order: &Order) -> Result<Outcome, AllocError> {
+    match order {
+        Order::Diff(_) => {
+            let fault = String::from_str(alloc, "table file: not found; nothing changes")?;
+            Ok(Outcome::Unread(fault))
+        }
+        _ => Ok(Outcome::Read(Vec::new(alloc))),
+    }
+}
+
 fn act_text(act: Act) -> &'static str {
     match act {
         Act::Line(_, LineWish::Started) => "a line starts",
@@ -180,6 +233,5 @@ fn act_text(act: Act) -> &'static str {
         Act::Line(_, LineWish::Stopped(EndMoment::WhenIdle)) => "a line drains",
         Act::Stop(EndMoment::AtOnce) => "the service stops",
         Act::Stop(EndMoment::WhenIdle) => "the service stops when idle",
-        Act::Refused(why) => why.sentence(),
     }
 }

@@ -20,6 +20,8 @@ pub(crate) struct Pipe {
     /// How many of those were read.
     read: Cell<usize>,
     ended: Cell<bool>,
+    /// It has gone.
+    gone: Cell<bool>,
     /// How many bytes it takes.
     room: Cell<usize>,
     told: RefCell<Vec<u8>>,
@@ -33,6 +35,7 @@ impl Pipe {
             coming: RefCell::new(Vec::new(alloc)),
             read: Cell::new(0),
             ended: Cell::new(false),
+            gone: Cell::new(false),
             room: Cell::new(1_000_000),
             told: RefCell::new(Vec::new(alloc)),
         }
@@ -47,6 +50,7 @@ impl Pipe {
         }
         self.read.set(0);
         self.ended.set(false);
+        self.gone.set(false);
         self.room.set(1_000_000);
     }
 
@@ -127,8 +131,18 @@ impl Pipes {
                     pipe.ended.set(true);
                 }
             }
+            Step::Goes(visitor) => {
+                if let Some(pipe) = self.pipes.get(visitor) {
+                    pipe.gone.set(true);
+                }
+            }
             Step::Waits(_) | Step::Runs | Step::Nothing => {}
         }
+    }
+
+    /// Whether somebody waits to be let in.
+    pub(crate) fn has_guest(&self) -> bool {
+        self.pipes.iter().any(|pipe| pipe.waits.get())
     }
 
     /// The first who waits is let in.
@@ -157,6 +171,9 @@ impl Read for Visit<'_> {
 
 impl Write for Visit<'_> {
     fn write(&mut self, buf: &[u8]) -> io::Result<usize> {
+        if self.pipe.gone.get() {
+            return Err(io::Error::from(ErrorKind::BrokenPipe));
+        }
         let count = self.pipe.room.get().min(buf.len());
         if count == 0 {
             return Err(io::Error::from(ErrorKind::WouldBlock));

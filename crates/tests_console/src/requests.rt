@@ -3,7 +3,8 @@
 
 use crate::asked::{request_of, tables_of};
 use njh_header::User;
-use njh_request::{EndMoment, LineWish, Request, RequestRefusal, Text};
+use njh_hub::OrderText;
+use njh_request::{EndMoment, LineWish, Order, OrderKey, Request, RequestRefusal, Terms};
 use njh_table::Tables;
 use std::alloc::{AllocError, Global};
 use std::io;
@@ -77,19 +78,49 @@ fn request_text(alloc: Global, request: &Request) -> Result<String, AllocError> 
         Request::Customers(from) => format!(in alloc; "customers from {from}"),
         Request::Lines(customer, from) => format!(in alloc; "lines of {customer} from {from}"),
         Request::Files(customer, from) => format!(in alloc; "files of {customer} from {from}"),
-        Request::Outcome(number) => format!(in alloc; "order {number}"),
-        Request::Order(customer, owner, text) => {
+        Request::Outcome(key) => match key {
+            OrderKey::Number(number) => format!(in alloc; "order {number}"),
+            OrderKey::Name(name) => format!(in alloc; "order called {name}"),
+        },
+        Request::Order(terms, order) => {
+            let order = ordered_text(alloc, order)?;
+            let terms = terms_text(alloc, terms)?;
+            let (order, terms) = (order.as_str(), terms.as_str());
+            format!(in alloc; "{order}{terms}")
+        }
+    }
+}
+
+/// The terms, in words; nothing if there are none.
+fn terms_text(alloc: Global, terms: &Terms) -> Result<String, AllocError> {
+    let mut text = String::new(alloc);
+    if let Some(name) = &terms.name {
+        text.push_str(format!(in alloc; ", as {name}")?.as_str())?;
+    }
+    if let Some(until) = terms.until {
+        text.push_str(format!(in alloc; ", until {until}")?.as_str())?;
+    }
+    if let Some(by) = &terms.by {
+        text.push_str(format!(in alloc; ", by {by}")?.as_str())?;
+    }
+    Ok(text)
+}
+
+/// What is ordered, in words.
+fn ordered_text(alloc: Global, order: &Order) -> Result<String, AllocError> {
+    match order {
+        Order::Command(customer, owner, text) => {
             let owner = match owner {
                 Some(owner) => user_text(alloc, *owner)?,
                 None => String::from_str(alloc, "nobody")?,
             };
             order_text(alloc, *customer, owner.as_str(), text)
         }
-        Request::Message(customer, whom, text) => {
+        Order::Message(customer, whom, text) => {
             let whom = user_text(alloc, *whom)?;
             order_text(alloc, *customer, whom.as_str(), text)
         }
-        Request::Line(line, wish) => {
+        Order::Line(line, wish) => {
             let (customer, number) = (line.customer, line.number);
             let wish = match wish {
                 LineWish::Started => "started",
@@ -97,14 +128,24 @@ fn request_text(alloc: Global, request: &Request) -> Result<String, AllocError> 
             };
             format!(in alloc; "line {number} of {customer}: {wish}")
         }
-        Request::Stop(moment) => {
+        Order::Stop(moment) => {
             let moment = moment_text(*moment);
             format!(in alloc; "stop {moment}")
+        }
+        Order::Reload => format!(in alloc; "reload"),
+        Order::Diff(path) => {
+            let path = path.text();
+            format!(in alloc; "diff {path}")
         }
     }
 }
 
-fn order_text(alloc: Global, customer: u16, user: &str, text: &Text) -> Result<String, AllocError> {
+fn order_text(
+    alloc: Global,
+    customer: u16,
+    user: &str,
+    text: &OrderText,
+) -> Result<String, AllocError> {
     let bytes = hex::encode(alloc, text.bytes())?;
     let bytes = bytes.as_str();
     format!(in alloc; "of {customer}, {user}: {bytes}")
@@ -112,8 +153,7 @@ fn order_text(alloc: Global, customer: u16, user: &str, text: &Text) -> Result<S
 
 fn refusal_text(alloc: Global, refusal: RequestRefusal) -> Result<String, AllocError> {
     let status = refusal.status();
-    let sentence = refusal.sentence();
-    format!(in alloc; "{status} {sentence}")
+    format!(in alloc; "{status} {refusal}")
 }
 
 /// What a line asks for.
@@ -125,13 +165,16 @@ fn told(alloc: Global, tables: &Tables, line: &str) -> Result<String, AllocError
 }
 
 /// The refusals that no request has by itself.
-const LATER: [RequestRefusal; 8] = [
-    RequestRefusal::NoFile,
-    RequestRefusal::NoOrder,
+const LATER: [RequestRefusal; 11] = [
+    RequestRefusal::NotACommand,
+    RequestRefusal::NoOwner,
+    RequestRefusal::NoOrder(OrderKey::Number(7)),
+    RequestRefusal::TooLate,
+    RequestRefusal::GiverGone,
     RequestRefusal::NoWay,
     RequestRefusal::QueueFull,
     RequestRefusal::SeveralOwners,
-    RequestRefusal::OrderWaits,
+    RequestRefusal::Busy,
     RequestRefusal::NotKept,
     RequestRefusal::TooLong,
 ];

@@ -11,6 +11,8 @@ pub(crate) enum Step<'a> {
     Takes(usize, usize),
     /// It sends no more.
     Ends(usize),
+    /// It has gone: it takes nothing any more.
+    Goes(usize),
     /// So many milliseconds pass.
     Waits(u64),
     /// The console has rounds until it has nothing to do.
@@ -29,6 +31,7 @@ pub(crate) fn step_of(line: &str) -> Step<'_> {
         "sends" => Step::Sends(visitor, text),
         "takes" => Step::Takes(visitor, text.parse::<usize>().unwrap_or(0)),
         "ends" => Step::Ends(visitor),
+        "goes" => Step::Goes(visitor),
         "waits" => Step::Waits(number.parse::<u64>().unwrap_or(0)),
         "runs" => Step::Runs,
         _ => Step::Nothing,

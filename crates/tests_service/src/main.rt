@@ -26,7 +26,7 @@ mod world;
 use std::{fs, io};
 
 /// The files of cases.
-const FILES: [&str; 14] = [
+const FILES: [&str; 15] = [
     "listening.cases",
     "dialling.cases",
     "groups.cases",
@@ -35,6 +35,7 @@ const FILES: [&str; 14] = [
     "prompting.cases",
     "routes.cases",
     "from.cases",
+    "reload.cases",
     "sessions.cases",
     "states.cases",
     "wrong.cases",

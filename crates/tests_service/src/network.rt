@@ -223,7 +223,11 @@ impl Write for SceneLog<'_> {
 }
 
 impl TableSource for SceneTables<'_> {
+    ghost use Rattle.std.specs.Prelude.{⊤};
+
     type Fault = TableFault;
+
+    ghost gives = { λ _ _. ⊤ };
 
     fn seen(&self) -> Option<SpoolSeen> {
         self.scene.stands()
@@ -231,6 +235,20 @@ impl TableSource for SceneTables<'_> {
 
     fn changed(&mut self) -> Option<Result<Tables, TableFault>> {
         let text = self.scene.look()?;
-        Some(Tables::read(self.alloc, str::from_utf8(text).unwrap_or("")))
+        Some(tables_of(self.alloc, text))
     }
+
+    fn read(&mut self) -> Result<Tables, TableFault> {
+        tables_of(self.alloc, self.scene.read_table())
+    }
+
+    /// The file of any name is the table file as it will be.
+    fn read_at(&self, _name: &str) -> Result<Tables, TableFault> {
+        tables_of(self.alloc, self.scene.next_table())
+    }
+}
+
+/// The tables of a text.
+fn tables_of(alloc: Global, text: &[u8]) -> Result<Tables, TableFault> {
+    Tables::read(alloc, str::from_utf8(text).unwrap_or(""))
 }

@@ -156,6 +156,22 @@ impl<'a> Scene<'a> {
         }
     }
 
+    /// The table file is read, whether it changed or not. What stands in it.
+    pub(crate) fn read_table(self) -> &'a [u8] {
+        match self {
+            Scene::World(world) => world.read_table(),
+            Scene::Joint(_, _) => &[],
+        }
+    }
+
+    /// What stands in the table file from the next act on that changes it.
+    pub(crate) fn next_table(self) -> &'a [u8] {
+        match self {
+            Scene::World(world) => world.next_table(),
+            Scene::Joint(_, _) => &[],
+        }
+    }
+
     /// What stands at the paths of the spool file and of its log, if there is one.
     pub(crate) fn stands(self) -> Option<SpoolSeen> {
         match self {

@@ -47,6 +47,8 @@ pub struct World<'a> {
     visit: Cell<Option<usize>>,
     /// The act that changed the table file, if that wasn't looked at since.
     change: Cell<Option<usize>>,
+    /// The act that changed it last of those that were looked at.
+    table: Cell<Option<usize>>,
     /// What stands at the paths of the spool file and of its log, if there is one.
     stands: Cell<Option<SpoolSeen>>,
     seen: Seen,
@@ -74,6 +76,7 @@ impl<'a> World<'a> {
             listening: Cell::new(Ports::Free),
             visit: Cell::new(None),
             change: Cell::new(None),
+            table: Cell::new(None),
             stands: Cell::new(None),
             seen: Seen::new(alloc),
         }
@@ -291,7 +294,32 @@ impl<'a> World<'a> {
             self.seen
                 .add_plain(self.now.get(), "looks at the table file");
         }
-        Some(self.bytes_of(self.change.take()?))
+        let change = self.change.take()?;
+        self.table.set(Some(change));
+        Some(self.bytes_of(change))
+    }
+
+    /// The table file is read, whether it changed or not. What stands in it.
+    pub(crate) fn read_table(&self) -> &'a [u8] {
+        if let Some(change) = self.change.take() {
+            self.table.set(Some(change));
+        }
+        match self.table.get() {
+            Some(change) => self.bytes_of(change),
+            None => &[],
+        }
+    }
+
+    /// What stands in the table file from the next act on that changes it.
+    pub(crate) fn next_table(&self) -> &'a [u8] {
+        for number in self.next.get()..self.acts.len() {
+            if let Some(act) = self.acts.get(number) {
+                if let Deed::Changes = act.deed {
+                    return act.bytes.as_slice();
+                }
+            }
+        }
+        &[]
     }
 
     /// What stands at the paths of the spool file and of its log, if there is one: from the first
