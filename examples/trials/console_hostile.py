@@ -5,7 +5,8 @@
 Each play starts the program on eight lines of two customers with a console, and misbehaves there. The table says what
 became of that, and how long the answers on a line of the second customer took meanwhile, which makes contact a hundred
 times a second: how many there were, the median and the longest, in milliseconds. After each play `ctl status` is to
-answer. The last column of a play that is wrong says so.
+answer, and beside those who keep seats it is asked all the time and is to answer within a second. The last column of a
+play that is wrong says so.
 """
 
 import contextlib
@@ -13,6 +14,7 @@ import random
 import socket
 import statistics
 import sys
+import threading
 import time
 
 from console import ConsoleHub, get, response
@@ -22,7 +24,7 @@ from hub import options_of, places_of, row, table_of
 WIDTHS = (28, 8, 10, 10, 6)
 
 
-def ended(visitor, wanted, seconds=7):
+def ended(visitor, wanted, seconds=3):
     """Reads until the console ends the connection, and says after how long it did and what it answered, which is to be
     this status, or nothing."""
     begin, data = time.monotonic(), b""
@@ -119,8 +121,8 @@ def stops_reading(hub):
     with hub.visit() as visitor:
         visitor.setsockopt(socket.SOL_SOCKET, socket.SO_RCVBUF, 1)
         visitor.settimeout(0.2)
-        begin, count, what = time.monotonic(), 0, "WRONG: kept for 9 s"
-        while time.monotonic() < begin + 9:
+        begin, count, what = time.monotonic(), 0, "WRONG: kept for 4 s"
+        while time.monotonic() < begin + 4:
             try:
                 visitor.sendall(b"GET /v1/customers HTTP/1.1\r\nHost: hub\r\n\r\n")
                 count += 1
@@ -148,7 +150,12 @@ def wrong_requests(hub):
         ("GET", "/", "", 404),
         ("GET", "/v1/nothing", "", 404),
         ("GET", "/v1/customers/NOBODY/files", "", 404),
-        ("DELETE", "/v1/status", "", 400),
+        ("DELETE", "/v1/status", "", 405),
+        ("GET", "/v1/status?from=1", "", 400),
+        ("POST", "/v1/stop", '{"when_idel":true}', 400),
+        ("POST", "/v1/stop", '{"when_idle":false,"when_idle":false}', 400),
+        ("POST", "/v1/stop", "", 400),
+        ("PUT", "/v1/stop", "{}", 405),
         ("POST", "/v1/customers/C0/orders", "{", 400),
         ("POST", "/v1/customers/C0/orders", '{"command":"DANCE"}', 400),
         ("POST", "/v1/customers/C0/orders", '{"command":"HOLD N0.7"}', 404),
@@ -164,6 +171,100 @@ def wrong_requests(hub):
             if got != status or b'"error"' not in answer:
                 found.append(f"{method} {path} {body}: {got} {answer.decode()}")
     return "each refused" if not found else "WRONG: " + "; ".join(found)
+
+
+def beside(hub, seconds, keep):
+    """How often `ctl status` was asked in so many seconds, and the longest that it took, while `keep` is called again and
+    again by another thread."""
+    ended, count, longest, failed = threading.Event(), 0, 0, 0
+
+    def keep_on():
+        while not ended.is_set():
+            keep()
+
+    keeper = threading.Thread(target=keep_on)
+    keeper.start()
+    end = time.monotonic() + seconds
+    while time.monotonic() < end:
+        begin = time.monotonic()
+        failed += hub.ctl("status")[0] != 0
+        count, longest = count + 1, max(longest, time.monotonic() - begin)
+    ended.set()
+    keeper.join()
+    what = f"{count} times ctl, {longest:.2f} s at most"
+    return what if not failed and longest < 1 else f"WRONG: {what}, {failed} failed"
+
+
+def seats_kept(hub, keep):
+    """Four visitors do this with a socket again and again, and another comes for each who is let go."""
+    visitors = [hub.visit() for _ in range(4)]
+
+    def keep_all():
+        for place, visitor in enumerate(visitors):
+            try:
+                keep(visitor)
+            except OSError:
+                visitor.close()
+                visitors[place] = hub.visit()
+        time.sleep(0.005)
+
+    what = beside(hub, 5, keep_all)
+    for visitor in visitors:
+        visitor.close()
+    return what
+
+
+def four_silent(hub):
+    def ask(visitor):
+        visitor.setblocking(False)
+        with contextlib.suppress(BlockingIOError):
+            if not visitor.recv(1):
+                raise OSError
+
+    return seats_kept(hub, ask)
+
+
+def four_who_drip(hub):
+    """A byte at a time, of a request that never ends."""
+    return seats_kept(hub, lambda visitor: visitor.sendall(b"x"))
+
+
+def four_who_ask_on(hub):
+    """Request upon request, whose answers are read."""
+
+    def ask(visitor):
+        visitor.setblocking(False)
+        with contextlib.suppress(BlockingIOError):
+            visitor.send(8 * b"GET /v1/status HTTP/1.1\r\nHost: hub\r\n\r\n")
+        with contextlib.suppress(BlockingIOError):
+            if not visitor.recv(65536):
+                raise OSError
+
+    return seats_kept(hub, ask)
+
+
+def four_who_read_nothing(hub):
+    """Request upon request, whose answers aren't read."""
+
+    def ask(visitor):
+        visitor.setblocking(False)
+        with contextlib.suppress(BlockingIOError):
+            visitor.send(8 * b"GET /v1/customers HTTP/1.1\r\nHost: hub\r\n\r\n")
+
+    return seats_kept(hub, ask)
+
+
+def connects_beside_ctl(hub):
+    """Connect upon connect, each with half a request and closed at once."""
+    connects = [0]
+
+    def connect():
+        with contextlib.suppress(OSError), hub.visit(1) as visitor:
+            visitor.sendall(b"GET /v1/status HTTP/1.1\r\nHo")
+            connects[0] += 1
+
+    what = beside(hub, 5, connect)
+    return f"{what}, {connects[0]} connects"
 
 
 def answers_again(hub):
@@ -183,6 +284,11 @@ PLAYS = (
     a_body_too_long,
     many_connects,
     many_at_once,
+    four_silent,
+    four_who_drip,
+    four_who_ask_on,
+    four_who_read_nothing,
+    connects_beside_ctl,
     stops_reading,
     asks_without_a_pause,
     wrong_requests,

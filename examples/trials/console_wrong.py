@@ -41,8 +41,25 @@ class Wrong:
         end = time.monotonic() + patience
         while (found := self.hub.answers("status")[0]["faults"]) != list(wanted) and time.monotonic() < end:
             self.loop.run(0.1)
-        shown = [line.removeprefix("wrong: ") for line in self.hub.prints("status").splitlines() if line.startswith("wrong")]
-        right = found == list(wanted) == shown
+        told = self.hub.answers("status")[0]["wrong"]
+        grave = all(one["severity"] in ("error", "warning") for one in told)
+        shown = self.shown("wrong")
+        right = found == list(wanted) == shown == [one["text"] for one in told] and grave
+        self.end_row(what, found, wanted, shown, right)
+
+    def is_intended(self, what, *wanted):
+        """So much isn't as the table file has it, since the operator wants it so: for two seconds at most."""
+        told = self.hub.answers("status")[0]
+        found, shown = [one["text"] for one in told["intended"]], self.shown("intended")
+        lately = all(told["now"] - one["since"] <= 2 for one in told["intended"])
+        self.end_row(what, found, wanted, shown, found == list(wanted) == shown and lately)
+
+    def shown(self, word):
+        """What `ctl status` prints behind a word."""
+        lines = self.hub.prints("status").splitlines()
+        return [line.removeprefix(f"{word}: ") for line in lines if line.startswith(f"{word}: ")]
+
+    def end_row(self, what, found, wanted, shown, right):
         self.count += not right
         row(WIDTHS, what, "; ".join(found) or "nothing", "right" if right else "WRONG")
         if not right:
@@ -76,9 +93,10 @@ def lines_are_wrong(wrong, loop, ports, taken):
     own.close()
     wrong.is_told("NICE left", gone)
     wrong.hub.prints("stop", "lyon")
-    wrong.is_told("LYON's line is stopped", "ACME lyon: stopped", gone)
+    wrong.is_intended("LYON's line is stopped", "ACME lyon: stopped")
+    wrong.is_told("and nothing is wrong with it", gone)
     wrong.hub.prints("start", "lyon")
-    wrong.is_told("and started", gone)
+    wrong.is_intended("it is started")
     return gone
 
 

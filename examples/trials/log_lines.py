@@ -186,19 +186,19 @@ def at_the_console(hub, loop):
     steps.step("what is there is asked for", done and not hub.ctl("tell", "ACME", "LYON", "ANNA", "SOON")[0])
     orders = "/v1/customers/ACME/orders"
     refused = (
-        ("GET", "/v1/nothing", "", 404, "there is nothing at this path"),
-        ("GET", "/v1/customers/NOBODY/files", "", 404, "there is nothing at this path"),
-        ("DELETE", "/v1/status", "", 400, "this isn't asked by this method"),
+        ("GET", "/v1/nothing", "", 404, "there is nothing at /v1/nothing"),
+        ("GET", "/v1/customers/NOBODY/files", "", 404, "no customer is called NOBODY"),
+        ("DELETE", "/v1/status", "", 405, "this is asked by GET, HEAD"),
         ("POST", orders, "{", 400, "the body isn't an object of JSON"),
-        ("POST", orders, '{"command":"HOLD LYON.7"}', 404, "the customer has no file of this name"),
-        ("PUT", "/v1/lines/lyon", '{"state":"asleep"}', 400, "the state of a line is started or stopped"),
-        ("GET", "/v1/orders/77", "", 404, "no order of this number is remembered"),
+        ("POST", orders, '{"command":"HOLD LYON.7"}', 404, "the customer has no file LYON.7"),
+        ("PUT", "/v1/lines/lyon", '{"state":"asleep"}', 400, "state is started or stopped"),
+        ("GET", "/v1/orders/77", "", 404, "no order 77 is remembered"),
     )
     for method, path, body, status, sentence in refused:
         done = ask(hub, method, path, body) == status
         steps.step(f"{method} {path} {body}", done, re.escape(f"request refused: {sentence}"))
     done = hub.ctl("cancel", "ACME", "LYON.7")[0] == 1
-    steps.step("ctl cancel of no file", done, "request refused: the customer has no file of this name")
+    steps.step("ctl cancel of no file", done, "request refused: the customer has no file LYON.7")
     steps.step("bytes that are no HTTP", speak(hub, b"\x01\x2d\x10\x70 no HTTP\r\n\r\n"), "a request was no HTTP")
     long = b"POST /v1/stop HTTP/1.1\r\nHost: h\r\nContent-Length: 9000\r\n\r\n" + b"x" * 9000
     steps.step("a body of 9,000 bytes", speak(hub, long), "a request was no HTTP")
@@ -206,7 +206,7 @@ def at_the_console(hub, loop):
     with hub.visit() as visitor:
         visitor.sendall(half)
     steps.step("half a request, whose visitor leaves", True, "a request was no HTTP")
-    steps.step("half a request, whose visitor is let go after five seconds", speak(hub, half))
+    steps.step("half a request, whose visitor is let go after two seconds", speak(hub, half))
     return steps
 
 
