@@ -11,6 +11,7 @@ mod groups;
 mod line_state;
 mod post;
 mod queues;
+mod rounds;
 mod sessions;
 mod states;
 mod stopping;
