@@ -17,8 +17,8 @@ pub record ConsoleState (V : Type 0) : Type 0 where
   pub seats : List (Seat V)
   pub orders : TakenOrders
 
--- Each was written to once. If the one who was answered in this round, who stands last, has gone, what he ordered of the
--- hub isn't carried out.
+-- Each was written to once. If the one who was answered in this round, who stands last, has gone, what he ordered of
+-- the hub isn't carried out.
 pub record AreHeard {V : Type 0} (before after : ConsoleState V) : Type 0 where
   pub seats : AreSentTo before.seats after.seats
   pub orders : after.orders ≡ cond (is_last_gone after.seats) (given_up before.orders) before.orders
@@ -28,8 +28,8 @@ pub record IsActDone {V : Type 0} (now : ℕ) (ticket : Ticket) (before after : 
   pub seats : after.seats ≡ before.seats
   pub orders : IsActed (is_last_gone before.seats) (is_late now ticket.terms) ticket before.orders after.orders
 
--- The first visitor whose request could be answered was, by what is at this moment, and this was ordered by it. He comes
--- last then. Where nobody was answered, nothing was ordered, and whoever asked is held up.
+-- The first visitor whose request could be answered was, by what is at this moment, and this was ordered by it. He
+-- comes last then. Where nobody was answered, nothing was ordered, and whoever asked is held up.
 abbrev pub AreServed : {V : Type 0} → Scene → ℕ → TakenOrders → List (Seat V) → List (Seat V) → Deed → Type 0
 AreServed scene now orders before after what =
     (ArePassed before after × (what ≡ Nothing))

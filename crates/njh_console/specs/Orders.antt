@@ -1,5 +1,5 @@
--- The orders that were taken: the last 64 with what came of them, the one that waits to be given to the hub, and the one
--- that was given in this round and whose outcome isn't known yet.
+-- The orders that were taken: the last 64 with what came of them, the one that waits to be given to the hub, and the
+-- one that was given in this round and whose outcome isn't known yet.
 use Rattle.std.specs.Prelude.{◌≡◌, ⊤, ℕ, ◌+◌, Bool, true, false, List, [], ◌∷◌, ◌++◌, cond, min, Option, Some, None}
 use Rattle.std.specs.Prelude.{Result, Ok, Err}
 use Rattle.circular_buffer.specs.Buffer.{keep_last}

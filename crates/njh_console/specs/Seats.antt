@@ -1,8 +1,8 @@
 -- The visitors, in the order in which they are looked at: who came in or was answered first is the first. Moments are
 -- milliseconds.
-use Rattle.std.specs.Prelude.{◌≡◌, ◌≢◌, ◌⊎◌, ⊤, ℕ, ◌+◌, ◌-◌, ◌<◌, ◌&&◌, ◌||◌, ◌==◌, Bool, true, false, not, List, [], ◌∷◌}
-use Rattle.std.specs.Prelude.{◌++◌, length, Option, Some, None, is_some, slice_get, filter, min, nat_le, nat_lt, cond}
-use Rattle.std.specs.Prelude.{slice_index_or, position, remove}
+use Rattle.std.specs.Prelude.{◌≡◌, ◌≢◌, ◌⊎◌, ⊤, ℕ, ◌+◌, ◌-◌, ◌<◌, ◌&&◌, ◌||◌, ◌==◌, Bool, true, false, not, List, []}
+use Rattle.std.specs.Prelude.{◌∷◌, ◌++◌, length, Option, Some, None, is_some, slice_get, filter, min, nat_le, nat_lt}
+use Rattle.std.specs.Prelude.{cond, slice_index_or, position, remove}
 use Rattle.std.specs.Option.{option_or}
 use Rattle.std.specs.Io.KnownBytes.{Consumes, Keeps}
 use Rattle.http1.specs.Message.{ReadsRequests}
@@ -170,8 +170,8 @@ without_place (Some place) seats = remove seats place
 abbrev pub with_room : {V : Type 0} → List (Seat V) → List (Seat V)
 with_room seats = cond (nat_lt (length seats) 4) seats (without_place (place_given_up seats) seats)
 
--- One came, and was read once. He has a seat then, unless nothing more is to be read of him: he had ended what he sends,
--- and nothing came.
+-- One came, and was read once. He has a seat then, unless nothing more is to be read of him: he had ended what he
+-- sends, and nothing came.
 pub record HasCome {V : Type 0} (remaining : V → Option (List ℕ)) (now : ℕ) (socket : V)
     (before after : List (Seat V)) : Type 0 where
   pub seat : Seat V

@@ -39,8 +39,8 @@ IsPrintedOf customer None number raw spool old new =
     HasLine customer (listing_text customer spool.files) × Appends old new (listing_text customer spool.files)
 IsPrintedOf customer (Some name) number raw spool old new = IsExportedOf customer number name raw spool old new
 
--- Why nothing, or not all, of that: the spool file, the writer or memory failed, or the file that is named isn't one, or
--- the customer has none.
+-- Why nothing, or not all, of that: the spool file, the writer or memory failed, or the file that is named isn't one,
+-- or the customer has none.
 abbrev pub IsFaultOf : (customer : Option (List ℕ)) → (file : Option (List ℕ)) → (number : Option ℕ) → SpoolContents
     → FilesFault → Type 0
 IsFaultOf customer None number spool fault = IsUnlisted customer (listing_text customer spool.files) fault

@@ -3,8 +3,8 @@
 ghost use Rattle.std.specs.Prelude.{◌≡◌, ◌≢◌, ℕ, ◌<◌, ◌↔◌, ◌/◌, ◌%◌, [], length, slice_get, IfOk, IfSome};
 ghost use Rattle.std.specs.Prelude.{IsSome, IsTrue, Some};
 ghost use Rattle.njh_log.specs.Kinds.{kind_number};
-ghost use Rattle.njh_log.specs.Spells.{after_event, after_kind, after_telling, begun, has_room, is_due, is_for, is_written};
-ghost use Rattle.njh_log.specs.Spells.{keeper_of, limit_of, noted_at, number_of, spell_at, writes};
+ghost use Rattle.njh_log.specs.Spells.{after_event, after_kind, after_telling, begun, has_room, is_due, is_for};
+ghost use Rattle.njh_log.specs.Spells.{is_written, keeper_of, limit_of, noted_at, number_of, spell_at, writes};
 
 use crate::event_kind::EventKind;
 use crate::heading::Place;
@@ -238,7 +238,8 @@ impl Spells {
 
     /// Where a spell is, and of which kind.
     pub(crate) fn place_of(&self, index: usize) -> (Place, EventKind)
-        ensures place { (place : Place) → slice_get self.now.places (index / 16) ≡ Some (Some place) → result.0 ≡ place }
+        ensures place { (place : Place) → slice_get self.now.places (index / 16) ≡ Some (Some place) →
+            result.0 ≡ place }
         ensures kind { kind_number result.1 ≡ index % 16 }
     {
         let place = match self.places.get(index / KINDS) {

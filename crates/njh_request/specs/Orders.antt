@@ -1,5 +1,5 @@
--- What a body orders: a command or a message for a customer, how a line is to be, the end of the service, that the table
--- file is read or another is compared.
+-- What a body orders: a command or a message for a customer, how a line is to be, the end of the service, that the
+-- table file is read or another is compared.
 use Rattle.std.specs.Prelude.{ℕ, Bool, true, false, List, codes, cond, bytes_eq, Option, Some, None, Result, Ok, Err}
 use Rattle.json.specs.Json.{Json}
 use Rattle.njh_ebcdic.specs.Users.{User}

@@ -11,11 +11,12 @@ use Rattle.njh_request.specs.declared.member.Member.TheVariants as member
 use Rattle.njh_request.specs.declared.methods.Methods.{Methods}
 use Rattle.njh_request.specs.declared.methods.Methods.TheVariants.{Get, Post, Put}
 use Rattle.njh_request.specs.declared.refusal.RequestRefusal.{RequestRefusal}
-use Rattle.njh_request.specs.declared.refusal.RequestRefusal.TheVariants.{NoResource, NoCustomer, NoLine, BadMethod, BadPlace}
-use Rattle.njh_request.specs.declared.refusal.RequestRefusal.TheVariants.{NoPlace, NotJson, UnknownMember, RepeatedMember}
-use Rattle.njh_request.specs.declared.refusal.RequestRefusal.TheVariants.{MissingMember, BadMember, NotACommand, NoOwner}
-use Rattle.njh_request.specs.declared.refusal.RequestRefusal.TheVariants.{NoFile, NoOrder, NameTaken, TooLate, GiverGone}
-use Rattle.njh_request.specs.declared.refusal.RequestRefusal.TheVariants.{NoWay, QueueFull, SeveralOwners, Busy, NotKept}
+use Rattle.njh_request.specs.declared.refusal.RequestRefusal.TheVariants.{NoResource, NoCustomer, NoLine, BadMethod}
+use Rattle.njh_request.specs.declared.refusal.RequestRefusal.TheVariants.{BadPlace, NoPlace, NotJson, UnknownMember}
+use Rattle.njh_request.specs.declared.refusal.RequestRefusal.TheVariants.{RepeatedMember, MissingMember, BadMember}
+use Rattle.njh_request.specs.declared.refusal.RequestRefusal.TheVariants.{NotACommand, NoOwner, NoFile, NoOrder}
+use Rattle.njh_request.specs.declared.refusal.RequestRefusal.TheVariants.{NameTaken, TooLate, GiverGone, NoWay}
+use Rattle.njh_request.specs.declared.refusal.RequestRefusal.TheVariants.{QueueFull, SeveralOwners, Busy, NotKept}
 use Rattle.njh_request.specs.declared.refusal.RequestRefusal.TheVariants.{TooLong}
 use Rattle.njh_request.specs.declared.order_key.OrderKey.{OrderKey}
 use Rattle.njh_request.specs.declared.order_key.OrderKey.TheVariants.{Number, Name}

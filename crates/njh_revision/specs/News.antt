@@ -6,8 +6,8 @@ use Rattle.njh_revision.specs.Revisions.{AgreesAt, HasRoutesOf, KnownTables}
 use Rattle.njh_revision.specs.declared.outcome.SourceOutcome.{SourceOutcome}
 use Rattle.njh_revision.specs.declared.outcome.SourceOutcome.TheVariants as outcomes
 
--- the customer of a number has all that they say of it: its routes are those of the tables that were taken last, and all
--- else is what the hub was opened with, but for from where peers may connect
+-- the customer of a number has all that they say of it: its routes are those of the tables that were taken last, and
+-- all else is what the hub was opened with, but for from where peers may connect
 abbrev pub HasAllAt : ℕ → KnownTables → TableFile → Type 0
 HasAllAt c known read = AgreesAt c known.opened read × HasRoutesOf c known.last read
 

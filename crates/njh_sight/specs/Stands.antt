@@ -47,7 +47,8 @@ coming_after was file drains records now = record {
   file = file;
   drains = drains;
   records = records;
-  since = if is_same_file was.file file && (is_same was.drains drains && (was.records == records)) then was.since else now;
+  since =
+      if is_same_file was.file file && (is_same was.drains drains && (was.records == records)) then was.since else now;
 }
 
 -- One from the hub is about this now: it stands as before if it was before, and else since now.

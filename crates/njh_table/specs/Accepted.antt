@@ -1,6 +1,7 @@
 -- What holds of every table that is accepted: the limits, names that differ, and quotas that add to at most the
 -- capacity.
-use Rattle.std.specs.Prelude.{◌≡◌, ◌≢◌, ℕ, ◌<◌, ◌≤◌, List, ◌∷◌, length, map, sum_by, All, AllPairs, IfSome, IsSome, IsTrue}
+use Rattle.std.specs.Prelude.{◌≡◌, ◌≢◌, ℕ, ◌<◌, ◌≤◌, List, ◌∷◌, length, map, sum_by, All, AllPairs, IfSome, IsSome}
+use Rattle.std.specs.Prelude.{IsTrue}
 use Rattle.std.specs.Net.Socket.{socket_port}
 use Rattle.njh_table.specs.declared.Protocol.TheVariants.{Tcp}
 use Rattle.njh_table.specs.declared.Role.TheVariants.{Call, Answer}
