@@ -59,8 +59,8 @@ pub record Attended (V : Type 0) : Type 0 where
   pub stop : Option EndMoment
   pub is_over : Bool
 
--- An order that it brought in a round, and of which it hasn't heard, is the one that its console gave; once it has heard
--- of it, or if it brought none, none is open.
+-- An order that it brought in a round, and of which it hasn't heard, is the one that its console gave; once it has
+-- heard of it, or if it brought none, none is open.
 abbrev pub AwaitsAnswer : Stage → TakenOrders → Type 0
 AwaitsAnswer Rests orders = ⊤
 AwaitsAnswer Begins orders = ⊤

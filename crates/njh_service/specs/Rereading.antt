@@ -10,8 +10,8 @@ use Rattle.njh_revision.specs.Revisions.{KnownTables}
 use Rattle.njh_revision.specs.declared.outcome.SourceOutcome.{SourceOutcome}
 use Rattle.njh_service.specs.Revising.{line_reread}
 
--- What is told of what was read: of a fault that it is one; of tables a sentence for each that they bring, and none only if
--- the hub has all that they say. There may be no memory for that.
+-- What is told of what was read: of a fault that it is one; of tables a sentence for each that they bring, and none
+-- only if the hub has all that they say. There may be no memory for that.
 abbrev pub IsToldOf : {F : Type 0} → Option KnownTables → Result TableFile F → Outcome → Type 0
 IsToldOf known (Ok tables) (Read texts) = length texts.items ≡ 0 → IfSome known (λ own. HasAllOf own tables)
 IsToldOf known (Err fault) (Unread text) = ⊤

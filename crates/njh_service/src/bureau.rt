@@ -21,8 +21,9 @@ use crate::operator::{tell_astray, tell_giver, tell_refusal};
 use crate::presence::{look_at_spool, presence_of, spool_fault};
 use crate::ready::{Version, tell_ready, version_of};
 use crate::revising::tell_unrouted;
-use crate::troubles::{Aside, Troubles, add_all, add_intended};
+use crate::troubles::{Troubles, add_all, add_intended};
 use crate::viewing::line_views;
+use crate::wrong_since::WrongSince;
 use njh_answer::{LineView, ServiceView, Trouble};
 use njh_command::Replies;
 use njh_console::{Act, Asked, Console, Situation};
@@ -60,6 +61,8 @@ pub struct Bureau<N: Network + Drop, L: Write + Drop, S: TableSource + Drop> {
     is_awaited: bool,
     /// The second that it was as the round began, since the beginning of 1970.
     pub(crate) clock: u64,
+    /// The same in milliseconds.
+    utc: u64,
     /// Whether a line may be one that is to be stopped once no file is on its streams.
     drains: bool,
     /// When the service is to end, if that was ordered.
@@ -68,8 +71,8 @@ pub struct Bureau<N: Network + Drop, L: Write + Drop, S: TableSource + Drop> {
     is_over: bool,
     /// Since when it is to, in seconds since the beginning of 1970.
     stop_since: u64,
-    /// How many files that were kept couldn't be put back at the start.
-    aside: usize,
+    /// What is wrong with the hub itself, since when.
+    wrong: WrongSince,
     /// Since when there is a service, in milliseconds since the beginning of 1970.
     since: i64,
 }
@@ -121,11 +124,12 @@ impl<N: Network + Drop, L: Write + Drop, S: TableSource + Drop> Bureau<N, L, S> 
             console,
             is_awaited: false,
             clock: seconds_of(since),
+            utc: milliseconds_of(since),
             drains: true,
             stop: None,
             is_over: false,
             stop_since: 0,
-            aside: 0,
+            wrong: WrongSince::nothing(seconds_of(since)),
             since,
         }
     }
@@ -174,7 +178,7 @@ impl<N: Network + Drop, L: Write + Drop, S: TableSource + Drop> Bureau<N, L, S> 
     pub(crate) fn tell_opened<D: Depot>(&mut self, depot: &D)
         ensures { self.new ≡ self.old }
     {
-        self.aside = tell_opened(&mut self.exchange, depot);
+        self.wrong.aside = tell_opened(&mut self.exchange, depot);
     }
 
     /// Tells that so many lines of a hub of so many customers are served.
@@ -199,7 +203,8 @@ impl<N: Network + Drop, L: Write + Drop, S: TableSource + Drop> Bureau<N, L, S> 
     {
         let until = self.moment();
         self.exchange.begin_round(until, wires);
-        self.clock = seconds_of(self.exchange.utc());
+        self.utc = milliseconds_of(self.exchange.utc());
+        self.clock = self.utc / 1000;
         self.receive();
     }
 
@@ -302,6 +307,9 @@ impl<N: Network + Drop, L: Write + Drop, S: TableSource + Drop> Bureau<N, L, S> 
         tell_unrouted(&mut self.revision, &mut self.exchange, hub);
         look_at_spool(&mut self.presence, &self.revision, &mut self.exchange);
         self.exchange.note_queues(hub);
+        let dropped = self.exchange.dropped();
+        self.wrong
+            .note(&self.revision, &self.presence, dropped, self.clock);
         self.end_round(hub, wires);
         self.serve_console(hub, wires);
     }
@@ -483,19 +491,15 @@ impl<N: Network + Drop, L: Write + Drop, S: TableSource + Drop> Bureau<N, L, S> 
         hub: &Hub,
         wires: &[LineWire<N::Connection>],
     ) -> Result<Vec<Trouble>, AllocError> {
-        let aside = Aside {
-            files: self.aside,
-            since: seconds_of(self.since),
-        };
         let clock = self.line_clock();
         let mut found = Troubles::new(self.alloc);
         if let Some(event) = spool_fault(&self.presence) {
-            found.add("", event, None)?;
+            found.add("", event, self.wrong.spool)?;
         }
         add_all(
             &self.exchange,
             &self.revision,
-            aside,
+            &self.wrong,
             hub,
             wires,
             clock,
@@ -516,11 +520,11 @@ impl<N: Network + Drop, L: Write + Drop, S: TableSource + Drop> Bureau<N, L, S> 
         found.told()
     }
 
-    /// The service's clock as the round began, beside the second in which it did.
+    /// The service's clock as the round began, beside that of the world.
     fn line_clock(&self) -> LineClock {
         LineClock {
             now: self.exchange.now(),
-            utc: self.clock.saturating_mul(1000),
+            utc: self.utc,
         }
     }
 
@@ -569,6 +573,11 @@ impl<N: Network + Drop, L: Write + Drop, S: TableSource + Drop> Bureau<N, L, S> 
             }
         }
     }
+}
+
+/// So many milliseconds, none if they are fewer.
+fn milliseconds_of(milliseconds: i64) -> u64 {
+    u64::try_from(milliseconds).unwrap_or(0)
 }
 
 /// The second of so many milliseconds.

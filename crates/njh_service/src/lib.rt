@@ -17,6 +17,7 @@ mod service;
 mod serving;
 mod troubles;
 mod viewing;
+mod wrong_since;
 
 pub use bureau::Bureau;
 pub use fault::ServeFault;

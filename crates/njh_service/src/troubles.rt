@@ -1,6 +1,7 @@
 //! What is wrong now, how grave it is, and since when.
 
 use crate::line_clock::LineClock;
+use crate::wrong_since::WrongSince;
 use njh_answer::Trouble;
 use njh_hub::Hub;
 use njh_lines::{Exchange, Post, intended_on, wrong_on};
@@ -87,13 +88,12 @@ impl Troubles {
     }
 }
 
-/// What is wrong now: with the table file, with so many files that couldn't be put back at the
-/// start, in this second, with the log, with customers, with lines. Out of memory is the only
-/// refusal.
+/// What is wrong now: with the table file, with files that couldn't be put back at the start, with
+/// the log, with customers, with lines. Out of memory is the only refusal.
 pub(crate) fn add_all<N: Network + Drop, L: Write + Drop, S: TableSource + Drop>(
     exchange: &Exchange<N, L>,
     revision: &Revision<S>,
-    aside: Aside,
+    wrong: &WrongSince,
     hub: &Hub,
     wires: &[LineWire<N::Connection>],
     clock: LineClock,
@@ -102,34 +102,27 @@ pub(crate) fn add_all<N: Network + Drop, L: Write + Drop, S: TableSource + Drop>
     let alloc = troubles.alloc;
     if let Some(fault) = revision.fault() {
         let text = format!(in alloc; "{fault}")?;
-        troubles.add_text(text, Severity::Error, None)?;
+        troubles.add_text(text, Severity::Error, wrong.table)?;
     }
-    add_losses(aside, exchange.dropped(), troubles)?;
+    add_losses(wrong, exchange.dropped(), troubles)?;
     for customer in 0..CUSTOMERS as u16 {
         add_customer(exchange, hub, customer, clock, troubles)?;
-        add_routes(exchange, revision, customer, troubles)?;
+        add_routes(exchange, revision, wrong, customer, troubles)?;
     }
     add_lines(exchange, hub, wires, clock, troubles)
 }
 
-/// How many files couldn't be put back, and the second in which that was seen.
-#[derive(Clone, Copy)]
-pub(crate) struct Aside {
-    pub(crate) files: usize,
-    pub(crate) since: u64,
-}
-
 /// Adds that so many files couldn't be put back, and that so many lines of the log were dropped.
-fn add_losses(aside: Aside, dropped: u64, troubles: &mut Troubles) -> Result<(), AllocError> {
+fn add_losses(wrong: &WrongSince, dropped: u64, troubles: &mut Troubles) -> Result<(), AllocError> {
     let alloc = troubles.alloc;
-    let files = aside.files;
+    let files = wrong.aside;
     if files > 0 {
         let text = format!(in alloc; "spool file: {files} files are set aside")?;
-        troubles.add_text(text, Severity::Warning, Some(aside.since))?;
+        troubles.add_text(text, Severity::Warning, Some(wrong.started))?;
     }
     if dropped > 0 {
         let text = format!(in alloc; "log: {dropped} lines were dropped")?;
-        troubles.add_text(text, Severity::Warning, None)?;
+        troubles.add_text(text, Severity::Warning, wrong.log)?;
     }
     Ok(())
 }
@@ -138,6 +131,7 @@ fn add_losses(aside: Aside, dropped: u64, troubles: &mut Troubles) -> Result<(),
 fn add_routes<N: Network + Drop, L: Write + Drop, S: TableSource + Drop>(
     exchange: &Exchange<N, L>,
     revision: &Revision<S>,
+    wrong: &WrongSince,
     customer: u16,
     troubles: &mut Troubles,
 ) -> Result<(), AllocError> {
@@ -147,7 +141,7 @@ fn add_routes<N: Network + Drop, L: Write + Drop, S: TableSource + Drop>(
     };
     if let Some(why) = revision.why_behind(customer) {
         let text = format!(in alloc; "{name}: {why}")?;
-        troubles.add_text(text, Severity::Warning, None)?;
+        troubles.add_text(text, Severity::Warning, wrong.routes(customer))?;
     }
     Ok(())
 }
