@@ -18,8 +18,8 @@ use Rattle.njh_arguments.specs.declared.arguments.Request.TheVariants as request
 use Rattle.njh_arguments.specs.declared.arguments.Task.{Task}
 use Rattle.njh_arguments.specs.declared.arguments.Task.TheVariants.{CheckScript, CheckTables, Decode, Encode, Replay}
 use Rattle.njh_arguments.specs.declared.serve_options.Unasked.{Unasked}
-use Rattle.njh_arguments.specs.declared.serve_options.Unasked.TheVariants.{Missing, NoAddress, NoCommand, NoFormat, Nothing}
-use Rattle.njh_arguments.specs.declared.serve_options.Unasked.TheVariants.{Unclear}
+use Rattle.njh_arguments.specs.declared.serve_options.Unasked.TheVariants.{Missing, NoAddress, NoCommand, NoFormat}
+use Rattle.njh_arguments.specs.declared.serve_options.Unasked.TheVariants.{Nothing, Unclear}
 
 -- a text is this number's digits, before which a plus may stand
 abbrev pub Spells : Text → ℕ → Type 0

@@ -129,7 +129,8 @@ abbrev pub age_of_text : Text → Option ℕ
 age_of_text [] = None
 age_of_text (b ∷ text) =
     option_and_then
-    (λ number. option_map (λ seconds. number * seconds) (seconds_of_unit (slice_index (b ∷ text) (length (b ∷ text) - 1))))
+    (λ number. option_map (λ seconds. number * seconds)
+    (seconds_of_unit (slice_index (b ∷ text) (length (b ∷ text) - 1))))
     (number_of_digits (take (length (b ∷ text) - 1) (b ∷ text)))
 
 abbrev pub age_by : Option Text → Option (Option ℕ)

@@ -27,6 +27,7 @@ pub data CommandView : Type 0 where
   Status : Bool → CommandView
   Customers : CommandView
   Lines : Option Text → CommandView
+  Messages : Text → CommandView
   Files : Option Text → ChoiceView → CommandView
   Changed : ChangeView → Text → Text → Option OwnerView → CommandView
   ChangedMany : ChangeView → Text → ChoiceView → Bool → CommandView
@@ -42,6 +43,7 @@ abbrev pub view_of : ConsoleCommand → CommandView
 view_of (command.Status quiet) = Status quiet
 view_of command.Customers = Customers
 view_of (command.Lines name) = Lines (option_map (λ name. name.now) name)
+view_of (command.Messages line) = Messages line.now
 view_of (command.Files customer choice) = Files (option_map (λ name. name.now) customer) (choice_view choice)
 view_of (command.Change change customer file owner) =
     Changed (change_view change) customer.now file.now (viewed_owner owner)
@@ -141,6 +143,7 @@ command_alone word given =
 abbrev pub command_of_one : Text → Text → Given → Option CommandView
 command_of_one word name given =
     if bytes_eq word (codes "lines") then plain (Lines (Some name)) given
+    else if bytes_eq word (codes "messages") then plain (Messages name) given
     else if bytes_eq word (codes "files") then listed (Some name) given
     else if bytes_eq word (codes "stop") then stopped name given
     else if bytes_eq word (codes "start") then plain (Started name) given

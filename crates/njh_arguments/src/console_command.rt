@@ -15,6 +15,11 @@ pub enum ConsoleCommand<'a> {
         /// The customer whose lines, or else the line; all customers' lines if none is named.
         name: Option<&'a str>,
     },
+    /// Which nodal messages wait on a line.
+    Messages {
+        /// The line.
+        line: &'a str,
+    },
     /// Which files there are.
     Files {
         /// Whose files; all customers' if none is named.

@@ -2,10 +2,11 @@
 
 ghost use Rattle.std.specs.Prelude.{◌≡◌, is_some, map, not, option_map, Some};
 ghost use Rattle.njh_arguments.specs.Choices.{given_of};
-ghost use Rattle.njh_arguments.specs.Commands.{asked, change_of_word, change_view, changed, changed_many, command_alone};
-ghost use Rattle.njh_arguments.specs.Commands.{command_in, command_of_one, command_of_three, command_of_two, has_choice};
-ghost use Rattle.njh_arguments.specs.Commands.{has_filter, has_flag, is_asked, is_many, is_owned, is_plain, is_timed};
-ghost use Rattle.njh_arguments.specs.Commands.{listed, plain, shut_down, stopped, told, view_of};
+ghost use Rattle.njh_arguments.specs.Commands.{asked, change_of_word, change_view, changed, changed_many};
+ghost use Rattle.njh_arguments.specs.Commands.{command_alone, command_in, command_of_one, command_of_three};
+ghost use Rattle.njh_arguments.specs.Commands.{command_of_two, has_choice, has_filter, has_flag, is_asked, is_many};
+ghost use Rattle.njh_arguments.specs.Commands.{is_owned, is_plain, is_timed, listed, plain, shut_down, stopped, told};
+ghost use Rattle.njh_arguments.specs.Commands.{view_of};
 
 use crate::choices::{choice_by, owner_by};
 use crate::console_command::{Change, ConsoleCommand, Owner};
@@ -82,6 +83,8 @@ fn command_of_one<'a>(
     if word == "lines" {
         let name = Some(name);
         plain(ConsoleCommand::Lines { name }, given)
+    } else if word == "messages" {
+        plain(ConsoleCommand::Messages { line: name }, given)
     } else if word == "files" {
         listed(Some(name), given)
     } else if word == "stop" {

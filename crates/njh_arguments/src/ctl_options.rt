@@ -3,9 +3,9 @@
 ghost use Rattle.std.specs.Prelude.{◌≡◌, codes, false, IfOk, IfErr};
 ghost use Rattle.clap.specs.Words.{app_of, found_of, kind_of, new_app, rows_of, rule_of};
 ghost use Rattle.clap.specs.declared.builder.command.Command.TheViews.{out-Command};
-ghost use Rattle.njh_arguments.specs.Arguments.{AsksFor, IsUnasked, command_rule, connecting_app, console_rule, ctl_app};
-ghost use Rattle.njh_arguments.specs.Arguments.{choosing_app, filtering_app, flagged_app, kind_rule, node_rule};
-ghost use Rattle.njh_arguments.specs.Arguments.{older_rule, owner_rule, owning_app, state_rule};
+ghost use Rattle.njh_arguments.specs.Arguments.{AsksFor, IsUnasked, command_rule, connecting_app, console_rule};
+ghost use Rattle.njh_arguments.specs.Arguments.{ctl_app, choosing_app, filtering_app, flagged_app, kind_rule};
+ghost use Rattle.njh_arguments.specs.Arguments.{node_rule, older_rule, owner_rule, owning_app, state_rule};
 ghost use Rattle.njh_arguments.specs.Choices.{given_of};
 ghost use Rattle.njh_arguments.specs.Commands.{given_in};
 
@@ -92,6 +92,7 @@ fn usage_of(word: &str) -> Option<&'static str> {
         "status" => Some("njehub ctl status [--quiet]"),
         "customers" => Some("njehub ctl customers"),
         "lines" => Some("njehub ctl lines [CUSTOMER|LINE]"),
+        "messages" => Some("njehub ctl messages LINE"),
         "files" => Some(
             "njehub ctl files [CUSTOMER] [--owner NODE.USER] [--node N] \
              [--state ready|held|refused|sending] [--kind in|out] [--older 7d]",
@@ -197,6 +198,7 @@ fn ctl_example<'a>() -> &'a str {
   status [--quiet]                How the hub is, and what is wrong now, in one line each
   customers                       Quota and blocks in use, and files by state, a customer a line
   lines [CUSTOMER|LINE]           How lines are: their sites, connections, sessions and streams
+  messages LINE                   For whom messages wait on the line, and since when
   files [CUSTOMER] [CHOICE]       The files, of all owners
   hold CUSTOMER FILE              Holds the owner's files of this name, as LYON.42
   release CUSTOMER FILE           Lets them go on

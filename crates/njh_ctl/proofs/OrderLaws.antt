@@ -112,6 +112,7 @@ plain_why fault.TurnedDown link is = absurd is
 plain_why fault.Wrong link is = absurd is
 plain_why fault.NoOrder link is = absurd is
 plain_why fault.NoLine link is = absurd is
+plain_why fault.NotALine link is = absurd is
 plain_why (fault.NoConsole why) link is = tt
 
 pub untold_why : (q : QuestionText) (old new : Link) (a : Asked) (f : CtlFault) → IsAskedSo q old new a
@@ -138,6 +139,7 @@ untold_why q old new (asked.Refused r) fault.TurnedDown so is = absurd is
 untold_why q old new (asked.Refused r) fault.Wrong so is = absurd is
 untold_why q old new (asked.Refused r) fault.NoOrder so is = absurd is
 untold_why q old new (asked.Refused r) fault.NoLine so is = absurd is
+untold_why q old new (asked.Refused r) fault.NotALine so is = absurd is
 untold_why q old new (asked.Refused r) (fault.NoConsole why) so is = absurd is
 
 -- of a refusal its sentence is told
@@ -186,4 +188,5 @@ asked_why moment fault.TurnedDown link is = absurd is
 asked_why moment fault.Wrong link is = absurd is
 asked_why moment fault.NoOrder link is = absurd is
 asked_why moment fault.NoLine link is = absurd is
+asked_why moment fault.NotALine link is = absurd is
 asked_why moment (fault.NoConsole why) link is = tt

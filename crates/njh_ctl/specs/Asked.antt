@@ -6,7 +6,7 @@ use Rattle.serde_json.specs.View.{items_of, view}
 use Rattle.json.specs.Json.{Json}
 use Rattle.njh_ctl.specs.Answers.{count_in, json_in, list_in, next_in, string_in}
 use Rattle.njh_ctl.specs.Exchanges.{IsHeard, Link, QuestionText, ReplyView, reply_view}
-use Rattle.njh_ctl.specs.Lists.{Customers, Files, Lines, ListView, key_of}
+use Rattle.njh_ctl.specs.Lists.{Customers, Files, Lines, ListView, Messages, key_of}
 use Rattle.njh_ctl.specs.Questions.{Text, customer_path, from_text, outcome_path}
 use Rattle.njh_ctl.specs.declared.asker.Answer.{Answer}
 use Rattle.njh_ctl.specs.declared.asker.Asked.{Asked}
@@ -33,6 +33,7 @@ outcome_asked key = asks (outcome_path key) None
 abbrev pub path_of_list : ListView → Text
 path_of_list Customers = codes "/v1/customers"
 path_of_list (Lines customer line) = customer_path customer (codes "lines")
+path_of_list (Messages customer line) = customer_path customer (codes "lines")
 path_of_list (Files customer wanted) = customer_path customer (codes "files")
 
 abbrev pub part_asked : ListView → ℕ → QuestionText
@@ -96,7 +97,8 @@ pub record IsRefusedBy (q : QuestionText) (old new : Link) (r : RefusalView) : T
 
 -- what a reply is: an answer, or a refusal
 abbrev pub IsAskedOf : ReplyView → Asked → Type 0
-IsAskedOf reply (asked.Answered answer) = (reply_view answer.reply ≡ reply) × (value_of reply ≡ Some (view answer.value))
+IsAskedOf reply (asked.Answered answer) =
+    (reply_view answer.reply ≡ reply) × (value_of reply ≡ Some (view answer.value))
 IsAskedOf reply (asked.Refused refusal) = IsRefusal reply (refusal_view refusal)
 
 abbrev pub IsAskedSo : QuestionText → Link → Link → Asked → Type 0

@@ -95,4 +95,5 @@ is_chosen wanted f =
 -- something is asked for
 abbrev pub has_choice : ChoiceView → Bool
 has_choice choice =
-    is_some choice.owner || (is_some choice.node || (is_some choice.state || (is_some choice.kind || is_some choice.age)))
+    is_some choice.owner
+    || (is_some choice.node || (is_some choice.state || (is_some choice.kind || is_some choice.age)))

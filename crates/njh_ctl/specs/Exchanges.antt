@@ -2,7 +2,8 @@
 use Rattle.std.specs.Prelude.{◌≡◌, ◌⊎◌, ℕ, ◌++◌, List, [], ◌∷◌, codes, drop, length, Option, Some, None, string_bytes}
 use Rattle.std.specs.Option.{option_map}
 use Rattle.std.specs.Io.KnownBytes.{Appends, Consumes}
-use Rattle.http1.specs.Client.{ClientReads, after_end, after_request, new_client, planned_request, with_writing, writing}
+use Rattle.http1.specs.Client.{ClientReads, after_end, after_request, new_client, planned_request, with_writing}
+use Rattle.http1.specs.Client.{writing}
 use Rattle.http1.specs.Conn.{after_data, data_text, finish_text}
 use Rattle.http1.specs.Fields.{Header}
 use Rattle.http1.specs.declared.client.Client.{Client}

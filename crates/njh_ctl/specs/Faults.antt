@@ -1,5 +1,6 @@
 -- Why a command isn't carried out.
-use Rattle.std.specs.Prelude.{◌≡◌, ℕ, ◌==◌, ◌&&◌, Bool, true, false, codes, nat_lt, not, Option, Some, None, string_bytes}
+use Rattle.std.specs.Prelude.{◌≡◌, ℕ, ◌==◌, ◌&&◌, Bool, true, false, codes, nat_lt, not, Option, Some, None}
+use Rattle.std.specs.Prelude.{string_bytes}
 use Rattle.serde_json.specs.Data.{Data}
 use Rattle.njh_ctl.specs.Answers.{string_in}
 use Rattle.njh_ctl.specs.Asked.{IsRefusedBy, RefusalView, sentence_of, value_of}

@@ -9,5 +9,6 @@ pub mod Orders
 pub mod Questions
 pub mod Shown
 pub mod ShownLines
+pub mod ShownMessages
 pub mod Talks
 pub mod Told

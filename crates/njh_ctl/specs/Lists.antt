@@ -1,5 +1,5 @@
 -- Lists that come in parts, and what is told of a part.
-use Rattle.std.specs.Prelude.{◌≡◌, ◌≤◌, ◌++◌, Bool, true, false, List, [], ◌∷◌, codes, Option, Some, is_some}
+use Rattle.std.specs.Prelude.{◌≡◌, ◌≤◌, ◌++◌, Bool, true, false, List, [], ◌∷◌, bytes_eq, codes, Option, Some, is_some}
 use Rattle.std.specs.Option.{option_map}
 use Rattle.serde_json.specs.Data.{Data, array, boolean, depth, null, number, object, put, string}
 use Rattle.serde_json.specs.Read.{max_depth, read}
@@ -9,25 +9,30 @@ use Rattle.njh_ctl.specs.Chosen.{FileView, IsFile, Wanted, has_choice, is_as_wan
 use Rattle.njh_ctl.specs.Questions.{Text}
 use Rattle.njh_ctl.specs.Shown.{IsCustomerRow, IsFileRow, Rows}
 use Rattle.njh_ctl.specs.ShownLines.{IsLineRow}
+use Rattle.njh_ctl.specs.ShownMessages.{AreLineMessages}
 use Rattle.njh_ctl.specs.Told.{Told, with_came, with_told}
 use Rattle.njh_ctl.specs.declared.parted_list.PartedList.{PartedList}
 use Rattle.njh_ctl.specs.declared.parted_list.PartedList.TheVariants as parted
 
--- the customers; a customer's lines, or that of a name; a customer's files that are chosen
+-- the customers; a customer's lines, or that of a name; the messages of a customer's line of a name; a customer's files
+-- that are chosen
 pub data ListView : Type 0 where
   Customers : ListView
   Lines : Text → Option Text → ListView
+  Messages : Text → Text → ListView
   Files : Text → Wanted → ListView
 
 abbrev pub list_view : PartedList → ListView
 list_view parted.Customers = Customers
 list_view (parted.Lines customer line) = Lines customer.now (option_map (λ line. line.now) line)
+list_view (parted.Messages customer line) = Messages customer.now line.now
 list_view (parted.Files customer filter) = Files customer.now (wanted_by filter)
 
 -- the member of an answer that has the items
 abbrev pub key_of : ListView → Text
 key_of Customers = codes "customers"
 key_of (Lines customer line) = codes "lines"
+key_of (Messages customer line) = codes "lines"
 key_of (Files customer wanted) = codes "files"
 
 -- ---- which items are looked for
@@ -35,12 +40,15 @@ key_of (Files customer wanted) = codes "files"
 abbrev pub is_filtered : ListView → Bool
 is_filtered Customers = false
 is_filtered (Lines customer line) = is_some line
+is_filtered (Messages customer line) = true
 is_filtered (Files customer wanted) = has_choice wanted.choice
 
 abbrev pub IsLooked : ListView → Data → Bool → Type 0
 IsLooked Customers d is = is ≡ true
 IsLooked (Lines customer line) d is =
     (name : Text) × (string_in (codes "name") d ≡ Some name) × (is ≡ is_as_wanted name line)
+IsLooked (Messages customer line) d is =
+    (name : Text) × (string_in (codes "name") d ≡ Some name) × (is ≡ bytes_eq name line)
 IsLooked (Files customer wanted) d is = (f : FileView) × IsFile d f × (is ≡ is_chosen wanted f)
 
 abbrev pub kept_one : Bool → Data → List Data
@@ -64,6 +72,7 @@ pub data Keeps (list : ListView) : List Data → List Data → Type 0 where
 abbrev pub RowOf : ListView → Data → Text → Type 0
 RowOf Customers = IsCustomerRow
 RowOf (Lines customer line) = IsLineRow customer
+RowOf (Messages customer line) = AreLineMessages customer
 RowOf (Files customer wanted) = IsFileRow customer
 
 -- an answer with these items in the place of its own

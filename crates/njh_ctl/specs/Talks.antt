@@ -11,7 +11,7 @@ use Rattle.njh_arguments.specs.declared.console_command.ConsoleCommand.TheVarian
 use Rattle.njh_ctl.specs.Answers.{next_in}
 use Rattle.njh_ctl.specs.Asked.{AnswerView, Gathered, IsName, Understands, part_asked, status_asked}
 use Rattle.njh_ctl.specs.Chosen.{Wanted}
-use Rattle.njh_ctl.specs.Lists.{Customers, Files, Lines, ListView, PartTold}
+use Rattle.njh_ctl.specs.Lists.{Customers, Files, Lines, ListView, Messages, PartTold}
 use Rattle.njh_ctl.specs.Many.{EntryView, IsEntry, ManyView, Tried, counts_text, ending_of}
 use Rattle.njh_ctl.specs.Orders.{GivenOnce, GiverView, IsCarriedOut, IsSaid, IsWrongBy, OperatorView, TalkView}
 use Rattle.njh_ctl.specs.Orders.{diff_given, message_given, order_given, reload_given, shutdown_given, start_given}
@@ -19,6 +19,7 @@ use Rattle.njh_ctl.specs.Orders.{stop_given}
 use Rattle.njh_ctl.specs.Questions.{Text, change_text}
 use Rattle.njh_ctl.specs.Shown.{IsStatusShown, customers_head, files_head}
 use Rattle.njh_ctl.specs.ShownLines.{lines_head}
+use Rattle.njh_ctl.specs.ShownMessages.{messages_head}
 use Rattle.njh_ctl.specs.Told.{LineTold, Tells, headed}
 use Rattle.njh_ctl.specs.declared.counts.Counts.{Counts}
 use Rattle.njh_ctl.specs.declared.ending.Ending.{Ending}
@@ -118,6 +119,22 @@ abbrev pub LinesListed : Option Text → TalkView → TalkView → Type 0
 LinesListed (Some name) old new = NameListed name old new
 LinesListed None old new = OfAll (LinesOf None) old new
 
+-- the messages of a customer's line of this name
+abbrev pub MessagesOf : Text → Text → TalkView → TalkView → Type 0
+MessagesOf line customer old new = ListedWhole (Messages customer line) old new
+
+-- of these customers, and whether one has such a line, of which something was told
+pub record MessagesFound (names : List Text) (line : Text) (old new : TalkView) (found : Bool) : Type 0 where
+  pub told : ForEach (MessagesOf line) old names new
+  pub is_so : found ≡ not (length new.told.text == length old.told.text)
+
+-- of all customers
+pub record MessagesListed (line : Text) (old new : TalkView) (found : Bool) : Type 0 where
+  pub names : List Text
+  pub mid : TalkView
+  pub named : Named old mid names
+  pub told : MessagesFound names line mid new found
+
 -- ---- many orders
 
 -- a customer's files are asked for, each name that is chosen is tried, and how many came to what is told
@@ -144,7 +161,8 @@ abbrev pub wanted_at : ChoiceView → TalkView → Wanted
 wanted_at choice talk = record { choice = choice; now = talk.moment }
 
 -- what is only asked, and told
-pub record InTalk (this : TalkView → TalkView → Ending → Type 0) (old new : OperatorView) (ending : Ending) : Type 0 where
+pub record InTalk (this : TalkView → TalkView → Ending → Type 0)
+    (old new : OperatorView) (ending : Ending) : Type 0 where
   pub is_so : this old.talk new.talk ending
   pub giver : new.giver ≡ old.giver
 
@@ -158,6 +176,9 @@ CustomersTold old new = ListedWhole Customers (with_head customers_head old) new
 abbrev pub LinesTold : Option Text → TalkView → TalkView → Type 0
 LinesTold name old new = LinesListed name (with_head lines_head old) new
 
+abbrev pub MessagesTold : Text → TalkView → TalkView → Type 0
+MessagesTold line old new = MessagesListed line (with_head messages_head old) new true
+
 abbrev pub FilesTold : ChoiceView → Option Text → TalkView → TalkView → Type 0
 FilesTold choice customer old new = FilesListed (wanted_at choice old) customer (with_head files_head old) new
 
@@ -166,6 +187,7 @@ CarriesOut (command.Status quiet) old new ending = InTalk (StatusAsked quiet) ol
 CarriesOut command.Customers old new ending = InTalk (Well CustomersTold) old new ending
 CarriesOut (command.Lines name) old new ending =
     InTalk (Well (LinesTold (option_map (λ name. name.now) name))) old new ending
+CarriesOut (command.Messages line) old new ending = InTalk (Well (MessagesTold line.now)) old new ending
 CarriesOut (command.Files customer choice) old new ending =
     InTalk (Well (FilesTold (choice_view choice) (option_map (λ name. name.now) customer))) old new ending
 CarriesOut (command.Change change customer file owner) old new ending =

@@ -92,7 +92,8 @@ impl<S: Read + Write + Drop, M: Machine<S> + Drop> Asker<S, M> {
 
     /// The answer to a question, which isn't to be refused.
     pub(crate) fn ask(&mut self, question: &Question<'_>) -> Result<Answer, CtlFault>
-        ensures done { IfOk result (λ answer. Understands (text_of question.now) self.old self.new (answer_view answer)) }
+        ensures done { IfOk result (λ answer.
+            Understands (text_of question.now) self.old self.new (answer_view answer)) }
         ensures why { IfErr result (λ fault. IsWhy fault self.new) }
     {
         match self.try_ask(question)? {
@@ -126,7 +127,8 @@ impl<S: Read + Write + Drop, M: Machine<S> + Drop> Asker<S, M> {
     /// The answer to a request. The console may end a connection between two requests, and then the
     /// request is sent on another.
     fn answer_to(&mut self, request: &RequestText) -> Result<ReplyText, CtlFault>
-        ensures done { IfOk result (λ reply. IsAnswered self.old self.new (request_view request.now) (reply_view reply)) }
+        ensures done { IfOk result (λ reply.
+            IsAnswered self.old self.new (request_view request.now) (reply_view reply)) }
         ensures why { IfErr result IsPlain }
     {
         for _ in 0..CONNECTIONS {
@@ -140,7 +142,8 @@ impl<S: Read + Write + Drop, M: Machine<S> + Drop> Asker<S, M> {
 
     /// The answer to a request on this connection.
     fn exchange(&mut self, request: &RequestText) -> Result<ReplyText, CtlFault>
-        ensures done { IfOk result (λ reply. IsExchanged self.old self.new (request_view request.now) (reply_view reply)) }
+        ensures done { IfOk result (λ reply.
+            IsExchanged self.old self.new (request_view request.now) (reply_view reply)) }
         ensures why { IfErr result IsPlain }
     {
         self.session.send(self.alloc, request)?;

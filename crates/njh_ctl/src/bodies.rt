@@ -8,9 +8,9 @@ ghost use Rattle.json.specs.Value.{value_view};
 ghost use Rattle.njh_request.specs.Bodies.{json_of_body};
 ghost use Rattle.njh_arguments.specs.Choices.{owner_view, viewed_owner};
 ghost use Rattle.njh_arguments.specs.Commands.{change_view};
-ghost use Rattle.njh_ctl.specs.Questions.{IsBody, change_text, command_data, data_of, order_data, owner_data, start_data};
-ghost use Rattle.njh_ctl.specs.Questions.{shutdown_data, stated_by, stated_members, stated_view, stop_data, tell_data};
-ghost use Rattle.njh_ctl.specs.Questions.{diff_data, reload_data, terms_view};
+ghost use Rattle.njh_ctl.specs.Questions.{IsBody, change_text, command_data, data_of, order_data, owner_data};
+ghost use Rattle.njh_ctl.specs.Questions.{start_data, shutdown_data, stated_by, stated_members, stated_view};
+ghost use Rattle.njh_ctl.specs.Questions.{stop_data, tell_data, diff_data, reload_data, terms_view};
 
 use crate::order::{Files, Order, Terms};
 use crate::question::Question;

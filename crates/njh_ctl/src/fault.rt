@@ -31,6 +31,8 @@ pub enum CtlFault {
     NoOrder,
     /// No customer and no line has the name.
     NoLine,
+    /// No line has the name.
+    NotALine,
     /// An answer isn't one of a console.
     NotUnderstood,
     /// The console answered nothing for five seconds.
@@ -104,6 +106,7 @@ impl fmt::Display for CtlFault {
                 "an order has a number or a name: a letter, and at most 31 letters, digits, -, . and _",
             ),
             CtlFault::NoLine => f.write_str("no customer and no line has this name"),
+            CtlFault::NotALine => f.write_str("no line has this name"),
             CtlFault::NotUnderstood => f.write_str("the console's answer isn't understood"),
             CtlFault::Silent => f.write_str("the console doesn't answer"),
             CtlFault::Broken => f.write_str("the console ended the connection"),

@@ -26,6 +26,7 @@ mod request_text;
 mod session;
 mod shown;
 mod shown_lines;
+mod shown_messages;
 mod talk;
 mod teller;
 

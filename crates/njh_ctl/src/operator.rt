@@ -87,6 +87,7 @@ impl<S: Read + Write + Drop, M: Machine<S> + Drop> Operator<S, M> {
             ConsoleCommand::Status { quiet } => self.talk.status(quiet),
             ConsoleCommand::Customers => self.talk.customers(),
             ConsoleCommand::Lines { name } => self.talk.lines(name),
+            ConsoleCommand::Messages { line } => self.talk.messages(line),
             ConsoleCommand::Files { customer, choice } => self.talk.files(customer, choice),
             ConsoleCommand::Change {
                 change,
@@ -157,8 +158,8 @@ impl<S: Read + Write + Drop, M: Machine<S> + Drop> Operator<S, M> {
 
     /// Gives an order for each name that is chosen.
     fn try_each(&mut self, many: Many<'_>, entries: &[Entry]) -> Result<Counts, CtlFault>
-        ensures done { IfOk result (Tried (many_view many.entry) self.old.giver (map entry_view entries.now) self.old.talk
-            (length entries.now) self.new.talk) }
+        ensures done { IfOk result (Tried (many_view many.entry) self.old.giver (map entry_view entries.now)
+            self.old.talk (length entries.now) self.new.talk) }
         ensures few { IfOk result (λ n. n.done + n.not_done + n.refused + n.passed_over ≤ length entries.now) }
         ensures giver { self.new.giver ≡ self.old.giver }
         ensures why { IfErr result (λ fault. IsWhy fault self.new.talk.link) }

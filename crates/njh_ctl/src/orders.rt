@@ -3,8 +3,8 @@
 ghost use Rattle.std.specs.Prelude.{◌≡◌, IfErr, IfOk, true};
 ghost use Rattle.njh_ctl.specs.Faults.{IsAskedWhy, IsPlain, IsUntoldWhy, IsWhy, OutcomeFault};
 ghost use Rattle.njh_ctl.specs.Many.{GivenTold};
-ghost use Rattle.njh_ctl.specs.Orders.{EndCame, IsAskedAgain, IsCarriedOut, IsGivenSo, IsOutcomeTold, IsSaid, IsTakenSo};
-ghost use Rattle.njh_ctl.specs.Orders.{Ordered, OutcomeCame, OutcomeSaid, order_view};
+ghost use Rattle.njh_ctl.specs.Orders.{EndCame, IsAskedAgain, IsCarriedOut, IsGivenSo, IsOutcomeTold, IsSaid};
+ghost use Rattle.njh_ctl.specs.Orders.{IsTakenSo, Ordered, OutcomeCame, OutcomeSaid, order_view};
 ghost use Rattle.njh_ctl.specs.Questions.{terms_view};
 ghost use Rattle.njh_ctl.specs.declared.ending.Ending.TheVariants.{Done};
 ghost use Rattle.njh_ctl.specs.declared.ending.Given.TheVariants as given;
@@ -179,8 +179,8 @@ pub(crate) fn tell_order<S: Read + Write + Drop, M: Machine<S> + Drop>(
     }
 }
 
-/// Asks over another connection what came of the order of a name, whose answer was lost. One that the console doesn't know
-/// wasn't carried out, if its service is the one that ran as the talk began.
+/// Asks over another connection what came of the order of a name, whose answer was lost. One that the console doesn't
+/// know wasn't carried out, if its service is the one that ran as the talk began.
 pub(crate) fn ask_again<S: Read + Write + Drop, M: Machine<S> + Drop>(
     talk: &mut Talk<S, M>,
     name: &str,

@@ -14,6 +14,7 @@ use crate::fault::CtlFault;
 use crate::question::Question;
 use crate::shown::{show_customers, show_files};
 use crate::shown_lines::show_lines;
+use crate::shown_messages::show_line_messages;
 use serde_json::Value;
 use std::alloc::Global;
 
@@ -24,6 +25,8 @@ pub(crate) enum PartedList<'a> {
     Customers,
     /// A customer's lines, or that of a name.
     Lines(&'a str, Option<&'a str>),
+    /// The messages of a customer's line of a name.
+    Messages(&'a str, &'a str),
     /// A customer's files, those that are looked for.
     Files(&'a str, Filter<'a>),
 }
@@ -36,6 +39,7 @@ impl<'a> PartedList<'a> {
         match self {
             PartedList::Customers => Question::Customers(from),
             PartedList::Lines(customer, _) => Question::Lines(customer, from),
+            PartedList::Messages(customer, _) => Question::Lines(customer, from),
             PartedList::Files(customer, _) => Question::Files(customer, from),
         }
     }
@@ -47,6 +51,7 @@ impl<'a> PartedList<'a> {
         match self {
             PartedList::Customers => "customers",
             PartedList::Lines(_, _) => "lines",
+            PartedList::Messages(_, _) => "lines",
             PartedList::Files(_, _) => "files",
         }
     }
@@ -58,6 +63,7 @@ impl<'a> PartedList<'a> {
         match self {
             PartedList::Customers => false,
             PartedList::Lines(_, line) => line.is_some(),
+            PartedList::Messages(_, _) => true,
             PartedList::Files(_, filter) => has_choice(filter.choice),
         }
     }
@@ -70,6 +76,9 @@ impl<'a> PartedList<'a> {
         match self {
             PartedList::Customers => Ok(true),
             PartedList::Lines(_, line) => Ok(is_as_wanted(text_in(item, "name")?, line)),
+            PartedList::Messages(_, line) => {
+                Ok(is_as_wanted(text_in(item, "name")?, Some(line)))
+            }
             PartedList::Files(_, filter) => Ok(is_chosen(filter, facts_of(item)?)),
         }
     }
@@ -89,6 +98,7 @@ impl<'a> PartedList<'a> {
             PartedList::Lines(customer, line) => {
                 show_lines(alloc, customer, items, line.is_some(), out)
             }
+            PartedList::Messages(customer, _) => show_line_messages(alloc, customer, items, out),
             PartedList::Files(customer, _) => show_files(alloc, customer, items, out),
         }
     }

@@ -204,7 +204,7 @@ fn show_way(alloc: Global, file: &Value, out: &mut String) -> Result<(), CtlFaul
     ensures shown { OnOk result (Adds (IsWay (view file.now)) out.old out.new) }
     ensures fault { IfErr result IsPlain }
 {
-    let since = came_text(alloc, file)?;
+    let since = since_of(alloc, file, "came")?;
     let since = since.as_str();
     let line = file
         .get("line")
@@ -213,11 +213,12 @@ fn show_way(alloc: Global, file: &Value, out: &mut String) -> Result<(), CtlFaul
     add(out, format!(in alloc; "{since:<20} {line:<8} "))
 }
 
-fn came_text(alloc: Global, file: &Value) -> Result<String, CtlFault>
-    ensures since { IfOk result (λ since. IsSince (count_in (codes "came") (view file.now)) (string_bytes since)) }
+/// Since when something is there, if a member says so.
+pub(crate) fn since_of(alloc: Global, value: &Value, key: &str) -> Result<String, CtlFault>
+    ensures since { IfOk result (λ since. IsSince (count_in key.now (view value.now)) (string_bytes since)) }
     ensures fault { IfErr result IsPlain }
 {
-    match file.get("came").and_then(Value::as_u64) {
+    match value.get(key).and_then(Value::as_u64) {
         Some(moment) => moment_text(alloc, moment),
         None => Ok(String::from_str(alloc, "-")?),
     }
@@ -241,7 +242,7 @@ fn show_users(
 }
 
 /// A user at a node, as `LYON.ANNA`; a node alone where there is no user.
-fn user_text(alloc: Global, user: &Value) -> Result<String, CtlFault>
+pub(crate) fn user_text(alloc: Global, user: &Value) -> Result<String, CtlFault>
     ensures user { IfOk result (λ text. IsUser (view user.now) (string_bytes text)) }
     ensures fault { IfErr result IsPlain }
 {

@@ -1,6 +1,6 @@
 //! What is asked in a talk with a console, and what is to be told of it.
 
-ghost use Rattle.std.specs.Prelude.{◌≡◌, [], None, IfErr, IfOk, OnOk, bytes_eq, map, option_map, string_bytes};
+ghost use Rattle.std.specs.Prelude.{◌≡◌, [], None, IfErr, IfOk, OnOk, bytes_eq, map, option_map, string_bytes, true};
 ghost use Rattle.std.specs.List.{list_any};
 ghost use Rattle.njh_arguments.specs.Choices.{choice_view};
 ghost use Rattle.njh_ctl.specs.Asked.{Gathered, IsAskedSo, answer_view};
@@ -12,8 +12,10 @@ ghost use Rattle.njh_ctl.specs.Many.{IsEntry, entry_view};
 ghost use Rattle.njh_ctl.specs.Orders.{with_ending};
 ghost use Rattle.njh_ctl.specs.Shown.{AreRepliesShown, customers_head, files_head};
 ghost use Rattle.njh_ctl.specs.ShownLines.{lines_head};
+ghost use Rattle.njh_ctl.specs.ShownMessages.{messages_head};
 ghost use Rattle.njh_ctl.specs.Talks.{FilesListed, FilesOf, ForEach, LinesFound, LinesListed, LinesOf, ListedWhole};
-ghost use Rattle.njh_ctl.specs.Talks.{NameListed, OfAll, PartListed, StatusAsked, wanted_at, with_head};
+ghost use Rattle.njh_ctl.specs.Talks.{MessagesFound, MessagesListed, MessagesOf, NameListed, OfAll, PartListed};
+ghost use Rattle.njh_ctl.specs.Talks.{StatusAsked, wanted_at, with_head};
 ghost use Rattle.njh_ctl.specs.Told.{IsNothing, LineTold, Tells};
 
 use crate::answers::next_in;
@@ -29,6 +31,7 @@ use crate::question::Question;
 use crate::replies::wrong_by;
 use crate::shown::{CUSTOMERS, FILES};
 use crate::shown_lines::LINES;
+use crate::shown_messages::MESSAGES;
 use crate::teller::Teller;
 use njh_arguments::Choice;
 use std::alloc::Global;
@@ -178,6 +181,49 @@ impl<S: Read + Write + Drop, M: Machine<S> + Drop> Talk<S, M> {
         Ok(())
     }
 
+    /// The messages of the lines of a name.
+    pub(crate) fn messages(&mut self, line: &str) -> Result<Ending, CtlFault>
+        ensures done { IfOk result (λ ending.
+            MessagesListed line.now (with_head messages_head self.old) self.new true
+            × (ending ≡ Ending.Done)) }
+        ensures why { IfErr result (λ fault. IsWhy fault self.new.link) }
+    {
+        self.teller.set_head(MESSAGES);
+        if self.messages_called(line)? {
+            Ok(Ending::Done)
+        } else {
+            Err(CtlFault::NotALine)
+        }
+    }
+
+    fn messages_called(&mut self, line: &str) -> Result<bool, CtlFault>
+        ensures done { IfOk result (MessagesListed line.now self.old self.new) }
+        ensures why { IfErr result (λ fault. IsWhy fault self.new.link) }
+    {
+        let names = self.asker.names()?;
+        self.messages_found(names.as_slice(), line)
+    }
+
+    /// Of each customer the messages of the line of a name. It answers whether one has such a line.
+    fn messages_found(&mut self, names: &[String], line: &str) -> Result<bool, CtlFault>
+        ensures done { IfOk result (MessagesFound (map string_bytes names.now) line.now self.old self.new) }
+        ensures why { IfErr result (λ fault. IsWhy fault self.new.link) }
+    {
+        let before = self.teller.text().len();
+        self.messages_of_all(names, line)?;
+        Ok(self.teller.text().len() != before)
+    }
+
+    fn messages_of_all(&mut self, names: &[String], line: &str) -> Result<(), CtlFault>
+        ensures done { OnOk result (ForEach (MessagesOf line.now) self.old (map string_bytes names.now) self.new) }
+        ensures why { IfErr result (λ fault. IsWhy fault self.new.link) }
+    {
+        for name in names {
+            self.list(PartedList::Messages(name.as_str(), line))?;
+        }
+        Ok(())
+    }
+
     /// The files that are chosen: a customer's, or of all.
     pub(crate) fn files(
         &mut self,
@@ -260,7 +306,8 @@ impl<S: Read + Write + Drop, M: Machine<S> + Drop> Talk<S, M> {
         customer: &str,
         choice: Choice<'_>,
     ) -> Result<Vec<Entry>, CtlFault>
-        ensures done { IfOk result (λ entries. Gathered (Files customer.now (wanted_at (choice_view choice.entry) self.old))
+        ensures done { IfOk result (λ entries. Gathered
+            (Files customer.now (wanted_at (choice_view choice.entry) self.old))
             (IsEntry (wanted_at (choice_view choice.entry) self.old)) self.old.link self.new.link
             (map entry_view entries.items) None) }
         ensures told { self.new.told ≡ self.old.told }

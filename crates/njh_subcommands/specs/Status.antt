@@ -43,6 +43,7 @@ status_of (failure.Control (ctl.NotDone sentence)) = 1
 status_of (failure.Control ctl.BadName) = 1
 status_of (failure.Control ctl.NoOrder) = 1
 status_of (failure.Control ctl.NoLine) = 1
+status_of (failure.Control ctl.NotALine) = 1
 status_of (failure.Control ctl.TurnedDown) = 1
 status_of (failure.Control ctl.Wrong) = 3
 status_of (failure.Control fault) = 2

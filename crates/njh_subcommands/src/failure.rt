@@ -74,6 +74,7 @@ impl Failure {
             Failure::Control(CtlFault::BadName) => 1,
             Failure::Control(CtlFault::NoOrder) => 1,
             Failure::Control(CtlFault::NoLine) => 1,
+            Failure::Control(CtlFault::NotALine) => 1,
             Failure::Control(CtlFault::TurnedDown) => 1,
             Failure::Control(CtlFault::Wrong) => 3,
             Failure::Control(_) => 2,
