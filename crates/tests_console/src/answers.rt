@@ -164,7 +164,7 @@ fn counts() -> LineCounts {
 fn moments(alloc: Global, first: u64) -> Result<Vec<u64>, AllocError> {
     let mut moments = Vec::new(alloc);
     for place in 0..8 {
-        moments.push(first + place)?;
+        moments.push(first.saturating_add(place))?;
     }
     Ok(moments)
 }

@@ -4,7 +4,7 @@
 use crate::stored::{Reach, Stored};
 use crate::stored_answers::{
     ANOTHER, BAD_TABLES, CUSTOMERS, FILES, LAST_FILES, LINES, MANY, NEW_ROUTES, NO_FILES,
-    NO_MEMORY, NO_REPLIES, NOT_DONE, REPLIES, RIGHT, STATUS, TAKEN, TOO_LATE, UNKNOWN,
+    NO_MEMORY, NO_REPLIES, NOT_DONE, QUEUES, REPLIES, RIGHT, STATUS, TAKEN, TOO_LATE, UNKNOWN,
 };
 use njh_arguments::{Change, Choice, ConsoleCommand, FileKind, FileState, Owner};
 use njh_ctl::{CtlFault, Ending, Giver, Operator};
@@ -26,6 +26,7 @@ const ALL: Choice<'static> = Choice {
 pub(crate) fn try_each<R: Print + AllocGlobal>(rt: &R) -> io::Result<()> {
     states_of_hub(rt)?;
     lines(rt)?;
+    messages(rt)?;
     files(rt)?;
     orders(rt)?;
     many(rt)?;
@@ -69,6 +70,23 @@ fn lines<R: Print + AllocGlobal>(rt: &R) -> io::Result<()> {
 
 fn lines_of(name: Option<&str>) -> ConsoleCommand<'_> {
     ConsoleCommand::Lines { name }
+}
+
+/// Messages of the line of a name: that wait or don't, of a line that isn't served, of one that a
+/// hub tells nothing of, and of a name that only a customer has.
+fn messages<R: Print + AllocGlobal>(rt: &R) -> io::Result<()> {
+    let some = [(200, CUSTOMERS), (200, LINES), (200, QUEUES)];
+    play(rt, messages_of("a2"), false, &some)?;
+    play(rt, messages_of("a2"), true, &some)?;
+    play(rt, messages_of("b1"), false, &some)?;
+    play(rt, messages_of("b2"), false, &some)?;
+    play(rt, messages_of("a1"), false, &some)?;
+    play(rt, messages_of("BOLT"), false, &some)?;
+    play(rt, messages_of("BOLT"), true, &some)
+}
+
+fn messages_of(line: &str) -> ConsoleCommand<'_> {
+    ConsoleCommand::Messages { line }
 }
 
 /// Files: all, and those that are chosen.
@@ -287,7 +305,8 @@ fn play<R: Print + AllocGlobal>(
     json: bool,
     answers: &[(u16, &str)],
 ) -> io::Result<()> {
-    play_over(rt, command, json, &[answers])
+    let stored = Stored::of_one(rt.alloc(), answers)?;
+    play_on(rt, command, json, &stored)
 }
 
 /// Carries out a command over connections, each with stored answers, one after another. If its
@@ -298,13 +317,20 @@ fn play_over<R: Print + AllocGlobal>(
     json: bool,
     connections: &[&[(u16, &str)]],
 ) -> io::Result<()> {
+    let stored = Stored::of(rt.alloc(), connections)?;
+    play_on(rt, command, json, &stored)
+}
+
+/// Carries out a command on a stored console, and prints what was sent, what is told and how it ends.
+fn play_on<R: Print + AllocGlobal>(
+    rt: &R,
+    command: ConsoleCommand<'_>,
+    json: bool,
+    stored: &Stored,
+) -> io::Result<()> {
     let alloc = rt.alloc();
-    let stored = Stored::of(alloc, connections)?;
     let mut told = String::new(alloc);
-    let reach = Reach {
-        alloc,
-        stored: &stored,
-    };
+    let reach = Reach { alloc, stored };
     let ended = ended_by(reach, json, &command, &mut told);
     stored.show_sent(rt)?;
     print!(rt; "{told}")?;

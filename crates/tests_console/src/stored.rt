@@ -58,6 +58,16 @@ pub(crate) struct Stored {
 }
 
 impl Stored {
+    /// With these answers on its only connection.
+    pub(crate) fn of_one(alloc: Global, answers: &[(u16, &str)]) -> Result<Stored, AllocError> {
+        let mut connections = Vec::new(alloc);
+        connections.push(connection_of(alloc, answers)?)?;
+        Ok(Stored {
+            connections,
+            made: Cell::new(0),
+        })
+    }
+
     /// With these answers on each connection.
     pub(crate) fn of(alloc: Global, answers: &[&[(u16, &str)]]) -> Result<Stored, AllocError> {
         let mut connections = Vec::new(alloc);

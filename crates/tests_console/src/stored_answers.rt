@@ -51,6 +51,12 @@ pub(crate) const LINES: &str = "{\"customer\":\"ACME\",\"lines\":[{\"from_hub\":
     \"messages\":null,\"name\":\"a3\",\"node\":\"NICE\",\"role\":\"answers\",\"served\":null,\
     \"session\":null,\"to_hub\":[]}],\"next\":null}";
 
+/// Lines: on which no message waits, and on which one does that isn't served.
+pub(crate) const QUEUES: &str = "{\"customer\":\"BOLT\",\"lines\":[{\"messages\":0,\"name\":\
+    \"b1\",\"queue\":[],\"served\":{\"counts\":{\"dropped\":0,\"messages\":{\"in\":12,\
+    \"out\":34}}}},{\"messages\":1,\"name\":\"b2\",\"queue\":[{\"node\":\"LYON\",\
+    \"since\":null,\"user\":\"ANNA\"}],\"served\":null}],\"next\":null}";
+
 /// Files, of which there are more.
 pub(crate) const FILES: &str = "{\"customer\":\"ACME\",\"files\":[{\"blocks\":1,\
     \"came\":1790650003,\"destination\":{\"node\":\"METZ\",\"user\":\"PAUL\"},\"kind\":\"OUT\",\
