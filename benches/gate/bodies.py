@@ -11,7 +11,8 @@ A wrong body is a file NAME.edit. Its first line says where it falls and what is
     old: SYN => self.go_on(Place::Inside),
     new: SYN => self.keep(byte),
 
-All wrong bodies of a crate are made in one copy of it, those at one function in copies one after the other, and a check from
+All wrong bodies of a crate are made in one copy of it, those at one function in copies one after the other, and one that edits
+what isn't in its function, as a constant, in a copy of its own, since another body's function may read that too. A check from
 nothing, over the libraries that are built, is asked of just their functions: each is proved by its own contract. A body is
 refused if the check has an open goal of its own function: of the clause that the first line names, of any clause if it
 names none, of a loop or of the type's invariant if it names an invariant, and of a call where the line says "what `before`
@@ -55,7 +56,11 @@ IN_CODE = re.compile(r"^note: (src/\S+\.rt):(\d+):\d+: .*?\(`([^`]+)`\)", re.M)
 IN_PROOF = re.compile(r"^(?:note: )?(?:\./)?proofs/(\S+)/\w+\.antt:\d+:\d+: error: `([^`]+)`", re.M)
 UNREAD = re.compile(r"^(?:error|rattle: error|\./src/\S+: error|src/\S+?:\d+:\d+: error)", re.M)
 
-Body = collections.namedtuple("Body", "name crate first place clauses function owner pairs text")
+# A wrong body; `function` is the one at which it falls, and `is_inside` whether it edits that one alone.
+Body = collections.namedtuple("Body", "name crate first place clauses function is_inside pairs text")
+
+# A function of a crate: its file, where it begins and ends there, its name as PROMISES.md has it, and what a check calls it.
+Function = collections.namedtuple("Function", "path begin end name called")
 
 
 class Unfit(Exception):
@@ -81,14 +86,50 @@ def below(crate, uses):
 
 
 def functions(source):
-    """The functions of a crate, by the file and the place in it where each begins: `Type::name` or `name`."""
+    """The functions of a crate."""
     for path in sorted(source.rglob("*.rt")):
         text = path.read_text(encoding="utf-8")
+        modules = path.relative_to(source).with_suffix("").parts
         owners = list(ledger.spans(text))
         for head in ledger.FN.finditer(text):
             if head[2] == "fn":
-                owner = next((name for a, z, name, _ in owners if a < head.end() < z), "")
-                yield path, head.start(), f"{owner}::{head[3]}" if owner else head[3]
+                begun, owner = next(((a, name) for a, z, name, _ in owners if a < head.end() < z), (0, ""))
+                name = f"{owner}::{head[3]}" if owner else head[3]
+                above = [impl_of(text[begun:], owner)] if owner else [] if modules in (("lib",), ("main",)) else modules
+                yield Function(path, head.start(), end_of(text, head.start()), name, "::".join([*above, head[3]]))
+
+
+def end_of(text, begin):
+    """Where a function ends: a brace closes it right below its first word."""
+    indent = re.compile(" *").match(text, begin)[0]
+    found = re.compile(rf"^{indent}(?:\{{\}}|\}})", re.M).search(text, begin)
+    return found.end() if found else len(text)
+
+
+def impl_of(text, owner):
+    """What a check calls the impl that begins a text: the type, and of a trait the words of both in one, as `LineWireWire`."""
+    header, depth = text[: text.index("{")].removeprefix("impl"), 0
+    if header.startswith("<"):
+        # its own parameters go
+        for place, letter in enumerate(header.replace("->", "  ")):
+            depth += (letter == "<") - (letter == ">")
+            if not depth:
+                header = header[place + 1 :]
+                break
+    trait, _, _ = header.rpartition(" for ")
+    words = re.findall(r"\(\)|\b[A-Za-z]\w+\b(?!::)", trait)
+    return owner + "".join("Unit" if word == "()" else word[0].upper() + word[1:] for word in words)
+
+
+def edited(pairs, source, known):
+    """The functions of a crate that edits change: None for what is in no function."""
+    for file, old, _ in pairs:
+        path = source.parent / file
+        text = path.read_text(encoding="utf-8") if path.is_file() else ""
+        # what an earlier edit of the same file made stands nowhere yet
+        place = text.find(old)
+        if place >= 0:
+            yield next((one for one in reversed(known) if one.path == path and one.begin <= place < one.end), None)
 
 
 def body_of(path, crate, source):
@@ -96,9 +137,9 @@ def body_of(path, crate, source):
     text = path.read_text(encoding="utf-8")
     first, *rest = text.split("\n")
     place, _, _ = first.removeprefix("# falls at ").partition(": ")
-    names = {name for _, _, name in functions(source)}
+    known = list(functions(source))
     quoted = re.findall(r"`([\w:]+)`", place)
-    places = [name for name in quoted if name in names]
+    places = [name for name in quoted if any(one.name == name for one in known)]
     if not first.startswith("# falls at ") or not places:
         raise Unfit("its first line names no function of the crate at which it falls")
     clauses = re.findall(r"`(\w+)`(?= of| and)", place) if place.startswith("the clause") else []
@@ -113,8 +154,14 @@ def body_of(path, crate, source):
             pairs.append((file, old, value))
     if not pairs or not all(file and old for file, old, _ in pairs):
         raise Unfit("it has no lines file:, old: and new:")
-    owner, _, name = places[-1].rpartition("::")
-    return Body(path.stem, crate, first, place, clauses, name, owner, pairs, text)
+    changed = list(edited(pairs, source, known))
+    # of several functions of that name it is the one that is edited
+    named = [one for one in known if one.name == places[-1]]
+    fit = [one for one in named if one in changed] or named
+    if len(fit) != 1:
+        raise Unfit(f"{len(fit)} functions are called {places[-1]}")
+    is_inside = bool(changed) and all(one == fit[0] for one in changed)
+    return Body(path.stem, crate, first, place, clauses, fit[0], is_inside, pairs, text)
 
 
 def apply(bodies, folder):
@@ -184,35 +231,17 @@ def check(bodies, words):
             if (ROOT / "crates" / bodies[0].crate / part).is_dir():
                 shutil.copytree(ROOT / "crates" / bodies[0].crate / part, folder / part)
         apply(bodies, folder)
-        only = [word for body in bodies for word in ("--only", path_of(body, folder))]
+        only = [word for body in bodies for word in ("--only", body.function.called)]
         ran = subprocess.run([KIT / "bin/rattle", "check", *words, *only], cwd=folder, stdout=subprocess.PIPE,
                              stderr=subprocess.STDOUT, stdin=subprocess.DEVNULL, text=True, errors="replace", check=False)
-        places = [(str(path.relative_to(folder)), path.read_text()[:at].count("\n") + 1, name)
-                  for path, at, name in functions(folder / "src")]
+        places = places_in(folder)
     return ran.stdout, places
 
 
-def path_of(body, folder):
-    """How a check is asked for the function at which a body falls: by its type, by its type and trait, or by its module."""
-    if body.owner:
-        return f"{impl_of(body, folder)}::{body.function}"
-    files = [path for path, _, name in functions(folder / "src") if name == body.function]
-    if len(files) != 1:
-        raise Unfit(f"{body.name}: {len(files)} functions are called {body.function}")
-    module = files[0].relative_to(folder / "src").with_suffix("")
-    return "::".join([*(() if module.name == "lib" else module.parts), body.function])
-
-
-def impl_of(body, folder):
-    """What a check calls the impl of a body's function: the type, and of a trait's the words of both in one, as `LineWireWire`."""
-    for path, at, name in functions(folder / "src"):
-        if name == f"{body.owner}::{body.function}":
-            header = re.findall(r"^impl\b[^{]*", path.read_text(encoding="utf-8")[:at], re.M)[-1]
-            trait, _, _ = ledger.bare(header).rpartition(" for ")
-            if trait:
-                whole = header[header.index(trait.split()[-1]) : header.rindex(" for ")]
-                return body.owner + "".join(re.findall(r"\b([A-Z]\w+)(?!\w|::)", whole))
-    return body.owner
+def places_in(folder):
+    """Where the functions of a copy of a crate stand: the file, the line, and what a check calls it."""
+    return [(str(one.path.relative_to(folder)), one.path.read_text(encoding="utf-8")[: one.begin].count("\n") + 1, one.called)
+            for one in functions(folder / "src")]
 
 
 def available():
@@ -226,24 +255,29 @@ def running():
 
 
 def is_named(body, path):
-    """Whether this is how a check calls a body's function."""
-    parts = path.split("::")
-    return parts[-1] == body.function and (not body.owner or (len(parts) > 1 and parts[-2].startswith(body.owner)))
+    """Whether a check calls a body's function so: one of no type by its module, a method by its type in any module."""
+    called = body.function.called
+    is_method = "::" in body.function.name and path.startswith(f"{body.crate}::")
+    return path == f"{body.crate}::{called}" or (is_method and path.endswith(f"::{called}"))
+
+
+def told_of(body, said):
+    """What a check says of a body's function."""
+    return [why for path, why in TOLD.findall(said) if is_named(body, path)]
 
 
 def goals(body, said, places):
     """The goals of a body's function that a check left open."""
-    wanted = f"{body.owner}::{body.function}" if body.owner else body.function
     found = set()
     for file, line, goal in IN_CODE.findall(said):
-        above = [name for other, at, name in places if other == file and at <= int(line)]
-        if above and above[-1] == wanted:
+        above = [called for other, at, called in places if other == file and at <= int(line)]
+        if above and above[-1] == body.function.called:
             found.add(goal)
     for folder, goal in IN_PROOF.findall(said):
-        if is_named(body, folder.replace("/", "::")):
+        if is_named(body, f"{body.crate}::{folder.replace('/', '::')}"):
             found.add(goal)
-    for path, why in TOLD.findall(said):
-        if is_named(body, path) and "did not prove" in why:
+    for why in told_of(body, said):
+        if "did not prove" in why:
             found.update(re.findall(r"`([^`]+)`", why.partition("did not prove")[2]))
     return found
 
@@ -277,7 +311,7 @@ def is_whole(body, ensures):
 
 def judge(body, said, places, ensures):
     """Whether a check refuses a body as its first line says, what is told of that, and whether to ask again for it alone."""
-    told = [why for path, why in TOLD.findall(said) if is_named(body, path)]
+    told = told_of(body, said)
     if not told:
         lines = [line for line in said.split("\n") if "error" in line] or said.strip().split("\n")[-3:]
         return False, f"it doesn't compile, or the check says nothing of it: {' | '.join(lines)[:400]}", False
@@ -296,16 +330,13 @@ def judge(body, said, places, ensures):
 
 
 def rounds(bodies):
-    """The bodies in lists that one copy can have: of a function, and of a text of it, one each."""
-    left, made = list(bodies), []
+    """The bodies in lists that one copy can have: one a function, and by itself one that edits what isn't in its function."""
+    left, made = [body for body in bodies if body.is_inside], []
     while left:
-        seen, now, later = set(), [], []
-        for body in left:
-            keys = {(body.owner, body.function), *((file, old) for file, old, _ in body.pairs)}
-            (later if seen & keys else now).append(body)
-            seen |= keys
-        made, left = [*made, now], later
-    return made
+        now = {body.function: body for body in reversed(left)}
+        made.append([body for body in left if now[body.function] is body])
+        left = [body for body in left if now[body.function] is not body]
+    return [*made, *([body] for body in bodies if not body.is_inside)]
 
 
 def sums(crate, uses):
@@ -336,8 +367,7 @@ def try_round(bodies, words, tables):
         return [told for body in bodies for told in try_round([body], words, tables)]
     results, again = [], []
     for body in bodies:
-        name = f"{body.owner}::{body.function}" if body.owner else body.function
-        well, told, is_unsure = judge(body, said, places, tables[body.crate][name].ensures)
+        well, told, is_unsure = judge(body, said, places, tables[body.crate][body.function.name].ensures)
         # where the copy doesn't compile, one body keeps the check from the others
         if not well and len(bodies) > 1 and (is_unsure or told.startswith("it doesn't compile")):
             again.append(body)
@@ -418,12 +448,13 @@ def selftest():
     """Whether each of these bodies of njh_bisync is told as it has to be."""
     uses, wrong = crates(), 0
     tables = {"njh_bisync": ledger.functions("njh_bisync")}
+    known = {one.name: one for one in functions(ROOT / "crates/njh_bisync/src")}
     make_libraries(below("njh_bisync", uses), uses)
     for name, (first, old, wanted) in TRIALS.items():
         place, _, _ = first.partition(": ")
         clause, function = re.findall(r"`([\w:]+)`", place)
-        owner, _, function = function.rpartition("::")
-        body = Body(name, "njh_bisync", first, place, [clause], function, owner, [("src/scanner.rt", old, NEW[name])], first)
+        pairs = [("src/scanner.rt", old, NEW[name])]
+        body = Body(name, "njh_bisync", first, place, [clause], known[function], True, pairs, first)
         ((_, _, told),) = try_round([body], words_for("njh_bisync", uses), tables)
         is_well = wanted in told
         wrong += not is_well
