@@ -18,7 +18,7 @@ CLAUSES = re.compile(r"`([\w:]+)`: ((?:`\w+`(?:, | and )?)+)")
 CONTRACT = re.compile(r"\bfn (\w+)(.*?)(?=\bfn \w+|\Z)", re.S)
 
 # what documents name of elsewhere: the toolchain's words, the system's, an emulator's settings
-ELSEWHERE = {"RT_JOBS", "version", "logic", "memcpy", "memmove", "memset", "rattle_dealloc", "ETO", "RTO"}
+ELSEWHERE = {"RT_JOBS", "version", "logic", "memcpy", "memmove", "memset", "rattle_dealloc", "ETO", "RTO", "systemctl", "tcpdump"}
 
 
 def sources():

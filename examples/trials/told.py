@@ -13,7 +13,8 @@ The plays, each with a hub of its own:
 - `stopped`: a line that the operator stops, and the end of its session.
 - `status`: the time, what is wrong with how much and since when, capacity, FILE and its log, and `status --quiet`.
 - `customers`: the files of the limit, the oldest one, and what was turned away.
-- `messages`: messages each way, those that were dropped, and for whom those wait that `ctl lines LINE` tells.
+- `messages`: messages each way, those that were dropped, and for whom those wait that `ctl lines LINE` tells, and
+  `ctl messages LINE`.
 
 Each row is a sentence, and whether it is so, with what was found below it. The last line says "right", or how many rows
 are wrong, with status 1.
@@ -509,10 +510,24 @@ def messages(options):
         told = json.dumps(hub.line("a2"))
         found = re.findall(r'"[a-z_]*dropped[a-z_]*": ?(\d+)', told)
         yield "lines tells how many messages were dropped", found == ["6"], f"{found}: {told}"
+        yield from queued(hub, "a2", ROOM, "came 0, went 0, dropped 6", noted)
         metz = hub.peer(1, "METZ", Counting)
         settles(hub, lambda: len(metz.told) == ROOM)
         found = [both_ways(hub, name, "messages") for name in ("a1", "a2")]
         yield "and how many came and went", found == [(count, 0), (0, ROOM)], found
+        yield from queued(hub, "a1", 0, f"came {count}, went 0, dropped 0", noted)
+        yield from queued(hub, "a2", 0, f"came 0, went {ROOM}, dropped 6", noted)
+
+
+def queued(hub, line, count, counted, noted):
+    """The row of what `ctl messages` tells of a line: so many that wait for PAUL, and what was counted."""
+    status, text, _ = hub.timed("messages", line)
+    head, *rows, last = text.splitlines() or ["", ""]
+    right = status == 0 and head.split() == ["CUSTOMER", "LINE", "FOR", "SINCE"] and len(rows) == count
+    right = right and all(row.split()[:3] == ["ACME", line, "METZ.PAUL"] for row in rows)
+    right = right and all(near(one, noted, 30) for one in moments_in(text)) and len(moments_in(text)) == count
+    right = right and last.split(maxsplit=2) == ["ACME", line, counted]
+    yield f"ctl messages {line} tells of {count} that wait, and {counted}", right, f"status {status}: {text}"
 
 
 PLAYS = (
