@@ -9,9 +9,10 @@ ghost use Rattle.njh_subcommands.specs.Status.{ComesFirst};
 use crate::console_path::ConsoleOf;
 use crate::orderer::giver_of;
 use njh_arguments::ConsoleCommand;
-use njh_ctl::{CtlFault, Ending, Machine, Operator};
+use njh_ctl::{CtlFault, Ending, Giver, Machine, Operator};
 use njh_io::write_bytes;
 use njh_subcommands::Failure;
+use std::alloc::Global;
 use std::io::{Read, Write};
 use std::net::Net;
 use std::os::unix::net::UnixStream;
@@ -33,23 +34,44 @@ pub(crate) fn control<F: Net + Env + Clock + RandomSource + AllocGlobal, W: Writ
         ⊎ IsTextBegun (W.contents out.old) (W.contents out.new)) }
     ensures silent { IfErr result (λ failure. ComesFirst failure → Keeps (W.contents out.old) (W.contents out.new)) }
 {
-    match operator_of(rt, console, json) {
+    match giver_of(rt) {
+        Ok(giver) => {
+            let alloc = rt.alloc();
+            let speaker = Speaker { alloc, json, giver };
+            command_by(ConsoleOf { rt, console }, speaker, command, out)
+        }
+        Err(fault) => Err(Failure::Control(fault)),
+    }
+}
+
+/// Who gives a command, and how answers are told: as they came, or for people.
+#[derive(Drop)]
+struct Speaker {
+    alloc: Global,
+    json: bool,
+    giver: Giver,
+}
+
+/// Gives a command to the console that a machine has, and tells what it answers.
+fn command_by<M: Machine<UnixStream> + Drop, W: Write>(
+    machine: M,
+    speaker: Speaker,
+    command: &ConsoleCommand<'_>,
+    out: &mut W,
+) -> Result<(), Failure>
+    ensures done { OnOk result (IsTold (W.contents out.old) (W.contents out.new)) }
+    ensures failed { IfErr result IsControlEnd }
+    ensures begun { OnErr result (Keeps (W.contents out.old) (W.contents out.new)
+        ⊎ IsTextBegun (W.contents out.old) (W.contents out.new)) }
+    ensures silent { IfErr result (λ failure. ComesFirst failure → Keeps (W.contents out.old) (W.contents out.new)) }
+{
+    match Operator::new(speaker.alloc, machine, speaker.json, speaker.giver) {
         Ok(mut operator) => {
             let ended = carried_out(&mut operator, command);
             tell_ended(out, operator, ended)
         }
         Err(fault) => Err(Failure::Control(fault)),
     }
-}
-
-/// Who gives commands to a console.
-fn operator_of<'a, F: Net + Env + Clock + RandomSource + AllocGlobal>(
-    rt: &'a F,
-    console: Option<&'a str>,
-    json: bool,
-) -> Result<Operator<UnixStream, ConsoleOf<'a, F>>, CtlFault> {
-    let giver = giver_of(rt)?;
-    Operator::new(rt.alloc(), ConsoleOf { rt, console }, json, giver)
 }
 
 /// Carries out a command. If it isn't known whether its order was done that is asked once more.
