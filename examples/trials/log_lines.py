@@ -9,7 +9,7 @@ file has is reckoned here from what was sent. A CANCEL of hers is told as well.
 
 Then visitors come to the console, some of whom ask for what isn't there, order what can't be, or speak no HTTP, and the
 operator ends the service: at once, and once no file is on a stream, while one is. There the lines are those of the
-console.
+console. As the log tells ten requests in ten seconds that were refused, and counts those beyond, the eleventh waits.
 
 The table has a row for each step, and whether the log has these lines; where it hasn't, they are printed.
 """
@@ -27,6 +27,9 @@ from peers import FilePeer, Loop
 WIDTHS = (70, 6)
 
 QUOTA = 1000
+
+# In so many seconds the log has ten lines of requests.
+SPELL = 10
 
 # How many bytes of records a block of the spool has, and how many a record takes besides its own.
 BLOCK, HEAD = 252, 3
@@ -203,6 +206,7 @@ def at_the_console(hub, loop):
     long = b"POST /v1/stop HTTP/1.1\r\nHost: h\r\nContent-Length: 9000\r\n\r\n" + b"x" * 9000
     steps.step("a body of 9,000 bytes", speak(hub, long), "a request was no HTTP")
     half = b"GET /v1/status HTTP/1.1\r\nHost: h"
+    loop.run(SPELL)
     with hub.visit() as visitor:
         visitor.sendall(half)
     steps.step("half a request, whose visitor leaves", True, "a request was no HTTP")
