@@ -21,6 +21,7 @@ are wrong, with status 1.
 """
 
 import calendar
+import contextlib
 import json
 import os
 import re
@@ -39,6 +40,9 @@ ROOM = 64
 
 # How far a moment that is told may be from the one that this trial noted, in seconds.
 NEAR = 2
+
+# After so many seconds the hub has seen since when a message waits.
+SINCE = 1.2
 
 # What is counted each way.
 FIGURES = ("bytes", "blocks", "files", "records")
@@ -61,11 +65,13 @@ class CountingDeframer(Deframer):
 
 class Counting(FilePeer):
     """
-    A peer that counts what it says and hears. What it says again counts no block, nor does what comes again, and its
-    sign-on, of which no count is kept.
+    A peer that counts what it says and hears. What it says again counts no block, nor does what comes again.
     """
 
     said, blocks_said, blocks_heard, records_said, records_heard, commands, last = 0, 0, 0, 0, 0, 0, None
+
+    # The frames that came while it holds its answers.
+    held = None
 
     def begin(self):
         if not isinstance(self.deframer, CountingDeframer):
@@ -75,15 +81,28 @@ class Counting(FilePeer):
 
     def say(self, frame):
         self.said += len(frame)
-        is_sign_on = frame[5:7] == b"\xf0\xc9"
-        self.blocks_said += frame[:2] == b"\x10\x02" and frame is not self.sent and not is_sign_on
+        self.blocks_said += frame[:2] == b"\x10\x02" and frame is not self.sent
         super().say(frame)
 
     def hear(self, frame):
         if isinstance(frame, Text):
             self.blocks_heard += frame[0] != self.last
             self.last = frame[0]
-        super().hear(frame)
+        if self.held is None:
+            super().hear(frame)
+        else:
+            self.held.append(frame)
+
+    @contextlib.contextmanager
+    def holding(self):
+        """It reads what the hub says, and answers it afterwards: meanwhile both have counted the same."""
+        self.held = []
+        self.loop.run(0.3)
+        yield
+        frames, self.held = self.held, None
+        for frame in frames:
+            if not self.is_closed:
+                super().hear(frame)
 
     def take_record(self, rcb, srcb, record):
         self.records_heard += bool(record)
@@ -225,7 +244,8 @@ def traffic(options):
         for customer, name in (("ACME", "a3"), ("BOLT", "b1")):
             figures = [both_ways(hub, name, figure, customer) for figure in FIGURES]
             yield f"{name}, on which nobody is: nothing", figures == [(0, 0)] * len(FIGURES), figures
-        lyon.close()
+        with lyon.holding():
+            lyon.close()
         hub.loop.run(0.5)
         again = hub.peer(0, "LYON", Counting)
         again.sends(file_to(9))
@@ -233,17 +253,19 @@ def traffic(options):
             setattr(again, figure, getattr(again, figure) + getattr(lyon, figure))
         again.deframer.heard += lyon.deframer.heard
         yield from as_counted(hub, "a1", again, "LYON's line, over two sessions")
-        text = hub.prints("lines", "a1") if hub.ctl("lines", "a1")[0] == 0 else hub.prints("lines", "ACME")
+        with again.holding():
+            text = hub.prints("lines", "a1")
+            wanted = {str(one) for figure in FIGURES for one in both_ways(hub, "a1", figure)}
         numbers = set(re.findall(r"\d+", text))
-        wanted = {str(one) for figure in FIGURES for one in both_ways(hub, "a1", figure)}
         yield "ctl lines shows these figures", wanted <= numbers and "None" not in wanted, text
 
 
 def as_counted(hub, name, peer, what):
     """The rows of a line: what its peer counted, once both are at rest."""
-    for figure in FIGURES:
-        settles(hub, lambda: both_ways(hub, name, figure) == peer.counted()[figure])
-        found, wanted = both_ways(hub, name, figure), peer.counted()[figure]
+    with peer.holding():
+        settles(hub, lambda: all(both_ways(hub, name, figure) == peer.counted()[figure] for figure in FIGURES), 1)
+        pairs = [(both_ways(hub, name, figure), peer.counted()[figure]) for figure in FIGURES]
+    for figure, (found, wanted) in zip(FIGURES, pairs):
         yield f"{what}: {figure} in and out are its peer's", found == wanted, f"told {found}, counted {wanted}"
 
 
@@ -496,7 +518,7 @@ def messages(options):
             lyon.waits.append(message("METZ", "PAUL", "LYON", f"N{number}"))
             if number % 10 == 9:
                 lyon.says()
-        hub.loop.run(0.5)
+        hub.loop.run(SINCE)
         status, text, _ = hub.timed("lines", "a2")
         rows = [line for line in text.splitlines() if "PAUL" in line]
         yield (
