@@ -27,8 +27,9 @@ use std::marker::Model;
 /// How many parts a list has at most.
 pub(crate) const PARTS: usize = 100_000;
 
-/// On how many connections a question is asked at most.
-const CONNECTIONS: usize = 16;
+/// On how many connections a question is asked at most. Beside visitors who come again and again one
+/// in five is answered.
+const CONNECTIONS: usize = 1_000;
 
 /// An answer that was understood.
 #[derive(Drop)]
