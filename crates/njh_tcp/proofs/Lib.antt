@@ -1,0 +1,9 @@
+pub mod RunLaws
+pub mod TtbRun
+pub mod HeardRun
+pub mod RunTtbs
+pub mod FedLaws
+pub mod ReadsLaws
+pub mod TextsLaws
+pub mod WrittenLaws
+pub mod ControlLaws

@@ -1,0 +1,12 @@
+pub mod Limits
+pub mod Carried
+pub mod Faults
+pub mod Blocks
+pub mod Hearing
+pub mod Reading
+pub mod ByteSteps
+pub mod Written
+pub mod Texts
+pub mod LentFrames
+pub mod Controls
+pub mod code
