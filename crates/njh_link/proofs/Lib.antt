@@ -1,0 +1,4 @@
+pub mod StepLaws
+pub mod OutLaws
+pub mod GivenLaws
+pub mod OwedLaws

@@ -1,0 +1,4 @@
+pub mod Talks
+pub mod Links
+pub mod Acts
+pub mod code

@@ -1,0 +1,2 @@
+-- What only bodies and proofs speak of.
+pub mod Steps
