@@ -3,3 +3,6 @@ pub mod OneFrameLaws
 pub mod WithheldLaws
 pub mod PromptLaws
 pub mod TallyLaws
+pub mod ByTcpLaws
+pub mod RoomLaws
+pub mod DepartureLaws

@@ -47,8 +47,10 @@ answer_tallies {C} s prompted (Ok reading.Absent) buffer new (told, (nobody, sam
 stop_tallies : {C : Type 0} (stop : Stop) (s : Standing C) → tally s ≡ tally (after_stop stop s)
 stop_tallies why.Full s = refl
 stop_tallies why.Dry s = refl
+stop_tallies why.Paused s = refl
 stop_tallies why.Ended s = refl
 stop_tallies why.Failed s = refl
+stop_tallies (why.Refused fault) s = refl
 
 -- the connection was read
 received_tallies : {C : Type 0} (moved : C → C → List ℕ → List ℕ → Type 0) (stops : C → Stop → Type 0)
@@ -57,7 +59,7 @@ received_tallies {C} moved stops s bytes new received =
     stop_tallies received.stop _ ∙ ap (λ (x : Standing C). tally x) (sym received.stands)
 
 -- the connection gave none, or wasn't read
-none_tallies : {C : Type 0} (moved : C → C → List ℕ → List ℕ → Type 0) (stops : C → Stop → Type 0)
+pub none_tallies : {C : Type 0} (moved : C → C → List ℕ → List ℕ → Type 0) (stops : C → Stop → Type 0)
     (s new : Standing C) → GivesNone moved stops s new → tally s ≡ tally new
 none_tallies {C} moved stops s new none =
     ⊎_elim (λ opens. received_tallies moved stops s [] new (none.received opens))

@@ -17,14 +17,14 @@ use Rattle.njh_wire.specs.Withheld.{IsWithheld, nothing, gives, drops, follows, 
 use Rattle.njh_wire.specs.code.WithheldLaws.{withheld_then}
 
 -- it stands as before
-still : {C : Type 0} (moved : C → C → List ℕ → List ℕ → Type 0) (s new : Standing C) → new ≡ s → IsWithheld moved s new
+pub still : {C : Type 0} (moved : C → C → List ℕ → List ℕ → Type 0) (s new : Standing C) → new ≡ s → IsWithheld moved s new
 still moved s new same = subst (IsWithheld moved s) (sym same) (nothing s)
 
 -- only times, marks and counts changed
-altered : {C : Type 0} (moved : C → C → List ℕ → List ℕ → Type 0) (s new : Standing C) → new.connection ≡ s.connection →
-    new.next ≡ s.next → new.waiting ≡ s.waiting → IsWithheld moved s new
-altered moved s new connection next waiting =
-    stays s new new [] connection next (waiting ∙ sym (append-nil s.waiting)) (nothing new)
+pub altered : {C : Type 0} (moved : C → C → List ℕ → List ℕ → Type 0) (s new : Standing C) → new.connection ≡ s.connection →
+    new.next ≡ s.next → new.leave ≡ s.leave → new.waiting ≡ s.waiting → IsWithheld moved s new
+altered moved s new connection next leaves waiting =
+    stays s new new [] connection next leaves (waiting ∙ sym (append-nil s.waiting)) (nothing new)
 
 -- the connection is given up, and the next one takes its place
 pub given_up_withholds : {C : Type 0} (moved : C → C → List ℕ → List ℕ → Type 0) (end : ConnectionEnd)
@@ -33,13 +33,13 @@ given_up_withholds moved end s new same =
     let gone = without_connection Failed end s in
     subst (IsWithheld moved s) (sym same)
     (drops s _ Failed end
-    (stays gone (with_failure gone) _ [] refl refl refl (follows (with_failure gone) _ (nothing _))))
+    (stays gone (with_failure gone) _ [] refl refl refl refl (follows (with_failure gone) _ (nothing _))))
 
 -- a frame was written
 pub written_withholds : {C : Type 0} (moved : C → C → List ℕ → List ℕ → Type 0) (s : Standing C) (frame : List ℕ)
     (new : Standing C) → IsWritten s frame new → IsWithheld moved s new
 written_withholds moved s frame new written =
-    subst (IsWithheld moved s) (sym written.1) (stays s _ _ frame refl refl refl (nothing _))
+    subst (IsWithheld moved s) (sym written.1) (stays s _ _ frame refl refl refl refl (nothing _))
 
 -- bytes wait to go out at a read
 pub wait_withholds : {C : Type 0} (moved : C → C → List ℕ → List ℕ → Type 0) (s : Standing C)
@@ -59,22 +59,24 @@ answer_withholds moved s prompted (Ok reading.Closed) new answer =
     subst (IsWithheld moved s) (sym answer.1) (follows s _ (nothing _))
 answer_withholds moved s prompted (Err fault) new answer =
     subst (IsWithheld moved s) (sym answer.1)
-    (withheld_then moved (altered moved s (with_failure s) refl refl refl) (follows (with_failure s) _ (nothing _)))
+    (withheld_then moved (altered moved s (with_failure s) refl refl refl refl) (follows (with_failure s) _ (nothing _)))
 answer_withholds moved s prompted (Ok (reading.Bytes n)) new answer = absurd answer
 answer_withholds moved s prompted (Ok reading.Quiet) new (told, (here, unasked, due, same)) =
-    subst (IsWithheld moved s) (sym same) (altered moved s _ refl refl refl)
+    subst (IsWithheld moved s) (sym same) (altered moved s _ refl refl refl refl)
 answer_withholds moved s prompted (Ok reading.Pending) new (told, (here, unasked, due, same)) = still moved s new same
 answer_withholds moved s prompted (Ok reading.Prompted) new (told, (here, asked, same)) =
-    subst (IsWithheld moved s) (sym same) (altered moved s _ refl refl refl)
+    subst (IsWithheld moved s) (sym same) (altered moved s _ refl refl refl refl)
 answer_withholds moved s prompted (Ok reading.Absent) new (told, (nobody, same)) = still moved s new same
 
 -- why no more bytes came is kept
 stop_withholds : {C : Type 0} (moved : C → C → List ℕ → List ℕ → Type 0) (stop : Stop) (s : Standing C) →
     IsWithheld moved s (after_stop stop s)
 stop_withholds moved why.Full s = nothing s
-stop_withholds moved why.Dry s = altered moved s _ refl refl refl
-stop_withholds moved why.Ended s = altered moved s _ refl refl refl
-stop_withholds moved why.Failed s = altered moved s _ refl refl refl
+stop_withholds moved why.Dry s = altered moved s _ refl refl refl refl
+stop_withholds moved why.Paused s = nothing s
+stop_withholds moved why.Ended s = altered moved s _ refl refl refl refl
+stop_withholds moved why.Failed s = altered moved s _ refl refl refl refl
+stop_withholds moved (why.Refused fault) s = altered moved s _ refl refl refl refl
 
 -- the connection was read
 pub received_withholds : {C : Type 0} (moved : C → C → List ℕ → List ℕ → Type 0) (stops : C → Stop → Type 0)
@@ -96,7 +98,7 @@ open_or_shut (Some c) false parting = inr (λ opens. absurd (cc opens.1))
 open_or_shut (Some c) true (Some told) = inr (λ opens. absurd (cc opens.2))
 
 -- the connection gave none, or wasn't read
-none_withholds : {C : Type 0} (moved : C → C → List ℕ → List ℕ → Type 0) (stops : C → Stop → Type 0)
+pub none_withholds : {C : Type 0} (moved : C → C → List ℕ → List ℕ → Type 0) (stops : C → Stop → Type 0)
     (s new : Standing C) → GivesNone moved stops s new → IsWithheld moved s new
 none_withholds moved stops s new none =
     ⊎_elim (λ opens. received_withholds moved stops s [] new (none.received opens))
@@ -117,7 +119,7 @@ pub read_withholds : {C : Type 0} (moved : C → C → List ℕ → List ℕ →
     IsRead moved stops s prompted result buffer new → IsWithheld moved s new
 read_withholds moved stops s prompted (Ok (reading.Bytes n)) buffer new (opens, (middle, received, same)) =
     withheld_then moved (received_withholds moved stops s (take n buffer) middle received)
-    (subst (IsWithheld moved middle) (sym same) (altered moved middle _ refl refl refl))
+    (subst (IsWithheld moved middle) (sym same) (altered moved middle _ refl refl refl refl))
 read_withholds moved stops s prompted (Ok reading.Quiet) buffer new (middle, none, answer) =
     silence_withholds moved stops s middle prompted (Ok reading.Quiet) new none answer
 read_withholds moved stops s prompted (Ok reading.Pending) buffer new (middle, none, answer) =

@@ -4,5 +4,7 @@ pub mod Places
 pub mod Tally
 pub mod OneFrame
 pub mod Readings
+pub mod ByTcp
+pub mod Leaving
 pub mod Withheld
 pub mod code

@@ -14,7 +14,8 @@ abbrev pub IsTaken : {C : Type 0} → (C → ℕ) → ℕ → Option (C × Socke
 IsTaken place_of place None = ⊤
 IsTaken place_of place (Some taken) = place_of taken.0 ≡ place
 
--- A wire's connection, and the one that waits for its place, are of its own line.
+-- A wire's connection, the one that waits for its place, and the one that leaves are of its own line.
 pub record IsOwn {C : Type 0} (place_of : C → ℕ) (s : Standing C) : Type 0 where
   pub connected : IsAt s.place (option_map place_of s.connection)
   pub follows : IsAt s.place (option_map place_of s.next)
+  pub leaves : IsAt s.place (option_map place_of s.leave.who)

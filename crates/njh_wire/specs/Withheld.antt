@@ -20,7 +20,7 @@ pub data IsWithheld {C : Type 0} (moved : C → C → List ℕ → List ℕ → 
       → IsWithheld moved (without_connection parting end s) last → IsWithheld moved s last
   -- the next one took its place, and nothing waits
   follows : (s last : Standing C) → IsWithheld moved (with_connection s.next s) last → IsWithheld moved s last
-  -- the same one stays, and so does the next; what waited still waits, in front of what was added
+  -- the same one stays, and so do the next and who leaves; what waited still waits, in front of what was added
   stays :
       (s new last : Standing C) (added : List ℕ) → new.connection ≡ s.connection → new.next ≡ s.next
-      → new.waiting ≡ s.waiting ++ added → IsWithheld moved new last → IsWithheld moved s last
+      → new.leave ≡ s.leave → new.waiting ≡ s.waiting ++ added → IsWithheld moved new last → IsWithheld moved s last

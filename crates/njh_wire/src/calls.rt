@@ -1,13 +1,13 @@
 //! Calls of a connection that may be there.
 
-ghost use Rattle.std.specs.Prelude.{◌≡◌, ◌≢◌, ◌<◌, ◌≤◌, [], length, take, IsSome, IsTrue, IfErr, IfOk};
+ghost use Rattle.std.specs.Prelude.{◌≡◌, ◌≢◌, ◌<◌, ◌≤◌, ◌⊎◌, [], length, take, IsSome, IsTrue, IfErr, IfOk, Some};
 ghost use Rattle.std.specs.Option.{option_map};
 ghost use Rattle.njh_wire.specs.Moved.{byte_given};
 ghost use Rattle.njh_wire.specs.OneFrame.{IsStrange};
 ghost use Rattle.njh_wire.specs.Readings.{Sends};
 ghost use Rattle.njh_wire.specs.declared.end.Stop.TheVariants.{Full};
 
-use crate::connection::{Connection, ConnectionFault, ConnectionRead};
+use crate::connection::{Connection, ConnectionFault, ConnectionRead, Saying};
 use crate::end::Stop;
 use crate::frame_end::may_end;
 
@@ -29,7 +29,9 @@ fn receive_all<C: Connection>(connection: &mut C, into: &mut [u8]) -> (usize, St
         match connection.receive(rest) {
             Ok(ConnectionRead::Bytes(more)) => count += more,
             Ok(ConnectionRead::Nothing) => return (count, Stop::Dry),
+            Ok(ConnectionRead::Paused) => return (count, Stop::Paused),
             Ok(ConnectionRead::Ended) => return (count, Stop::Ended),
+            Ok(ConnectionRead::Refused(fault)) => return (count, Stop::Refused(fault)),
             Err(_) => return (count, Stop::Failed),
         }
     }
@@ -37,7 +39,7 @@ fn receive_all<C: Connection>(connection: &mut C, into: &mut [u8]) -> (usize, St
 }
 
 /// Reads one byte of a connection, or answers why none comes.
-fn receive_byte<C: Connection>(connection: &mut C) -> Result<u8, Stop>
+pub fn receive_byte<C: Connection>(connection: &mut C) -> Result<u8, Stop>
     ensures moved { C.moved connection.old connection.new (byte_given result) [] }
     ensures stops { IfErr result (λ stop. (stop ≢ Full) × C.stops connection.new stop) }
     ensures place { C.place_of connection.new ≡ C.place_of connection.old }
@@ -46,7 +48,9 @@ fn receive_byte<C: Connection>(connection: &mut C) -> Result<u8, Stop>
     match connection.receive(&mut byte) {
         Ok(ConnectionRead::Bytes(_)) => Ok(byte[0]),
         Ok(ConnectionRead::Nothing) => Err(Stop::Dry),
+        Ok(ConnectionRead::Paused) => Err(Stop::Paused),
         Ok(ConnectionRead::Ended) => Err(Stop::Ended),
+        Ok(ConnectionRead::Refused(fault)) => Err(Stop::Refused(fault)),
         Err(_) => Err(Stop::Failed),
     }
 }
@@ -101,6 +105,24 @@ pub(crate) fn receive_on<C: Connection + Drop>(
     }
 }
 
+/// Has a connection answer in the place of its peer, if there is one and it owes that.
+pub(crate) fn acknowledge_on<C: Connection + Drop>(
+    connection: &mut Option<C>,
+    into: &mut [u8],
+) -> usize
+    ensures moved { 0 < result → (before after : C) × (connection.old ≡ Some before) × (connection.new ≡ Some after) ×
+        C.moved before after (take result into.new) [] }
+    ensures none { result ≡ 0 → connection.new ≡ connection.old }
+    ensures within { result ≤ length into.new }
+    ensures strange { IsStrange (take result into.new) }
+    ensures place { option_map C.place_of connection.new ≡ option_map C.place_of connection.old }
+{
+    match connection {
+        Some(connection) => connection.acknowledge(into),
+        None => 0,
+    }
+}
+
 /// Sends bytes on a connection, if there is one.
 pub(crate) fn send_on<C: Connection + Drop>(
     connection: &mut Option<C>,
@@ -113,5 +135,33 @@ pub(crate) fn send_on<C: Connection + Drop>(
     match connection {
         Some(connection) => connection.send(bytes),
         None => Err(ConnectionFault),
+    }
+}
+
+/// Has a connection that is there say what its line doesn't write, and send it on. Answers whether
+/// that went well.
+pub(crate) fn say_on<C: Connection + Drop>(connection: &mut Option<C>, saying: Saying) -> bool
+    requires { IsSome connection.old }
+    ensures said { IsTrue result → (before middle after : C) × (connection.old ≡ Some before)
+        × (connection.new ≡ Some after) × ((middle ≡ before) ⊎ C.said before middle saying)
+        × C.moved middle after [] [] }
+    ensures place { option_map C.place_of connection.new ≡ option_map C.place_of connection.old }
+{
+    match connection {
+        Some(connection) => say(connection, saying),
+        None => unreachable!(),
+    }
+}
+
+/// Has a connection say it, and send it on.
+fn say<C: Connection>(connection: &mut C, saying: Saying) -> bool
+    ensures said { IsTrue result → (middle : C) × ((middle ≡ connection.old) ⊎ C.said connection.old middle saying)
+        × C.moved middle connection.new [] [] }
+    ensures place { C.place_of connection.new ≡ C.place_of connection.old }
+{
+    connection.say(saying);
+    match connection.send(&[]) {
+        Ok(_) => true,
+        Err(_) => false,
     }
 }

@@ -1,5 +1,7 @@
 //! How connections end.
 
+use njh_link::LinkFault;
+
 /// Why a connection of a line ended.
 #[derive(Clone, Copy, Debug, PartialEq, Eq)]
 pub enum ConnectionEnd {
@@ -7,7 +9,9 @@ pub enum ConnectionEnd {
     Ended,
     /// It could not be read or written, or took more answers than there is room for.
     Failed,
-    /// Bytes waited for a second to go out.
+    /// It took no more of what came on it.
+    Refused(LinkFault),
+    /// Bytes waited for a second to go out; on a line over TCP/IP none went out for thirty.
     Stalled,
     /// Another connection took its place.
     Replaced,
@@ -31,8 +35,12 @@ pub enum Stop {
     Full,
     /// Nothing more is there now.
     Dry,
+    /// The connection gives no more at this read, and may at the next.
+    Paused,
     /// The other end sends no more.
     Ended,
     /// The connection failed.
     Failed,
+    /// The connection takes no more of what comes.
+    Refused(LinkFault),
 }

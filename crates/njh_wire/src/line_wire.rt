@@ -6,31 +6,43 @@ ghost use Rattle.njh_hub.specs.Sent.{IsCounted};
 ghost use Rattle.njh_turns.specs.Wires.{Sent, Unsent, answer_acts, heard_of, IsReading};
 ghost use Rattle.njh_wire.specs.declared.end.ConnectionEnd.TheVariants.{Failed};
 ghost use Rattle.njh_wire.specs.Standing.{first_standing, with_connection, without_connection, with_failure, given_up};
-ghost use Rattle.njh_wire.specs.Standing.{due};
 ghost use Rattle.njh_wire.specs.Standing.{after_displacement, after_admission, after_close};
 ghost use Rattle.std.specs.Option.{option_map};
 ghost use Rattle.njh_wire.specs.Places.{IsAt, IsOwn};
 ghost use Rattle.njh_wire.specs.OneFrame.{IsStrangersReading};
-ghost use Rattle.njh_wire.specs.Readings.{IsOpen, IsWait, IsRead, IsWritten, IsFlushed};
+ghost use Rattle.njh_wire.specs.Readings.{IsOpen, IsWait, IsRead, IsWritten};
+ghost use Rattle.njh_wire.specs.ByTcp.{IsReadByTcp, IsWaitByTcp};
 ghost use Rattle.njh_wire.specs.Withheld.{IsWithheld};
 
+mod by_tcp;
+mod leaving;
+mod moments;
 mod reading;
+mod saying;
+mod seeing;
 mod writing;
 
-use crate::calls::send_on;
 use crate::connection::Connection;
 use crate::counts::Counts;
 use crate::end::{ConnectionEnd, Parting};
+use crate::ending::Ending;
+use crate::farewell::Farewell;
 use crate::last_bytes::LastBytes;
+use crate::marks::Marks;
 use crate::outbox::{Outbox, ROOM};
+use crate::patience::Patience;
 use crate::silence::Silence;
 use njh_hub::QUIET_TIME;
+use njh_table::Protocol;
 use njh_turns::{Reading, Wire, WireFault};
 use std::alloc::{AllocError, Global};
 use std::marker::Model;
 
-/// For how many milliseconds bytes may wait to go out.
+/// For how many milliseconds bytes may wait to go out on a bisync line.
 pub const STALL_TIME: u64 = 1000;
+
+/// For how many milliseconds nothing may go out of what waits on a line over TCP/IP.
+pub const TCP_STALL_TIME: u64 = 30_000;
 
 /// The wire of a line over connections that never wait, of which it has one at a time.
 ///
@@ -41,14 +53,13 @@ pub struct LineWire<C: Connection + Drop> {
     place: usize,
     connection: Option<C>,
     next: Option<C>,
-    parting: Option<Parting>,
+    leaving: Option<C>,
     waiting: Outbox,
-    since: u64,
-    readable: bool,
-    up: bool,
-    clock: u64,
+    farewell: Farewell,
+    patience: Patience,
+    marks: Marks,
     silence: Silence,
-    end: Option<ConnectionEnd>,
+    ending: Ending,
     counts: Counts,
 }
 
@@ -61,26 +72,35 @@ impl<C: Connection + Drop> Model for LineWire<C> {
 
     ghost view = { λ wire. record {
       place = wire.place;
+      protocol = wire.patience.protocol;
       connection = wire.connection;
       next = wire.next;
-      parting = wire.parting;
+      parting = wire.ending.parting;
       waiting = wire.waiting;
-      since = wire.since;
-      readable = wire.readable;
-      up = wire.up;
-      clock = wire.clock;
+      since = wire.patience.since;
+      sent = wire.patience.sent;
+      leave = record {
+        who = wire.leaving;
+        rest = wire.farewell.waiting;
+        until = wire.farewell.until;
+        shut = wire.farewell.is_shut;
+      };
+      readable = wire.marks.readable;
+      up = wire.marks.up;
+      clock = wire.marks.clock;
       begun = wire.silence.begun;
       quiet = wire.silence.quiet;
       heard = wire.silence.heard;
       last_bytes = wire.silence.last_bytes;
-      end = wire.end;
+      end = wire.ending.end;
       failures = wire.counts.failures;
       came = wire.counts.came;
       went = wire.counts.went;
     } };
 
     ghost invariant = { λ wire. IsAt wire.place (option_map C.place_of wire.connection)
-        × IsAt wire.place (option_map C.place_of wire.next) };
+        × IsAt wire.place (option_map C.place_of wire.next)
+        × IsAt wire.place (option_map C.place_of wire.leaving) };
 }
 
 impl<C: Connection + Drop> LineWire<C> {
@@ -93,19 +113,29 @@ impl<C: Connection + Drop> LineWire<C> {
             place,
             connection: None,
             next: None,
-            parting: None,
+            leaving: None,
             waiting: Outbox::new(alloc)?,
-            since: 0,
-            readable: false,
-            up: false,
-            clock: 0,
+            farewell: Farewell::new(alloc)?,
+            patience: Patience {
+                protocol: Protocol::Bisync,
+                since: 0,
+                sent: 0,
+            },
+            marks: Marks {
+                readable: false,
+                up: false,
+                clock: 0,
+            },
             silence: Silence {
                 begun: 0,
                 quiet: QUIET_TIME,
                 heard: 0,
                 last_bytes: LastBytes { before: 0, last: 0 },
             },
-            end: None,
+            ending: Ending {
+                parting: None,
+                end: None,
+            },
             counts: Counts {
                 failures: 0,
                 came: 0,
@@ -127,7 +157,22 @@ impl<C: Connection + Drop> LineWire<C> {
     pub fn set_clock(&mut self, now: u64)
         ensures { self.new ≡ record self.old { clock = now } }
     {
-        self.clock = now;
+        self.marks.clock = now;
+    }
+
+    /// Sets by which rules it waits: those of its line's protocol. At first they are those of a bisync
+    /// line.
+    pub fn set_protocol(&mut self, protocol: Protocol)
+        ensures { self.new ≡ record self.old { protocol = protocol } }
+    {
+        self.patience.protocol = protocol;
+    }
+
+    /// By which rules it waits: those of its line's protocol.
+    pub fn protocol(&self) -> Protocol
+        ensures { result ≡ self.now.protocol }
+    {
+        self.patience.protocol
     }
 
     /// Sets how many milliseconds without a byte are a quiet, from the silence on that has begun.
@@ -143,14 +188,14 @@ impl<C: Connection + Drop> LineWire<C> {
     pub fn set_up(&mut self, is_up: bool)
         ensures { self.new ≡ record self.old { up = is_up } }
     {
-        self.up = is_up;
+        self.marks.up = is_up;
     }
 
     /// Something may be there to read.
     pub fn mark_readable(&mut self)
         ensures { self.new ≡ record self.old { readable = true } }
     {
-        self.readable = true;
+        self.marks.readable = true;
     }
 
     /// Why its last connection ended, once.
@@ -158,122 +203,33 @@ impl<C: Connection + Drop> LineWire<C> {
         ensures end { result ≡ self.old.end }
         ensures taken { self.new ≡ record self.old { end = None } }
     {
-        self.end.take()
+        self.ending.end.take()
     }
 
-    /// Takes a connection of its own line. Where there is one it is dropped, the next read answers
+    /// Takes a connection of its own line. Where there is one it is ended, the next read answers
     /// that it is closed, and then the new one is read.
     pub fn connect(&mut self, connection: C)
         requires { C.place_of connection ≡ self.old.place }
         ensures { self.new ≡ after_admission connection (after_displacement self.old) }
     {
         if self.connection.is_some() {
-            self.part(Parting::Closed, ConnectionEnd::Replaced);
+            self.end_here(ConnectionEnd::Replaced);
         }
-        match self.parting {
+        match self.ending.parting {
             Some(_) => self.next = Some(connection),
             None => self.resume(Some(connection)),
         }
     }
 
-    /// Drops the connection. The next read answers that it is closed.
+    /// Ends the connection. The next read answers that it is closed. On a bisync line it is dropped
+    /// with what waits; over TCP/IP it leaves.
     pub fn close(&mut self)
         ensures { self.new ≡ after_close self.old }
     {
         if self.connection.is_some() {
-            self.part(Parting::Closed, ConnectionEnd::Closed);
+            self.end_here(ConnectionEnd::Closed);
         }
         self.next = None;
-    }
-
-    /// Whether somebody is connected.
-    pub fn is_connected(&self) -> bool
-        ensures { IsTrue result ↔ (IsSome self.now.connection ⊎ IsSome self.now.next) }
-    {
-        self.connection.is_some() || self.next.is_some()
-    }
-
-    /// Whether the next read is to be made now, whatever the time: something may be there to read,
-    /// or an end is to be told.
-    pub fn is_ready(&self) -> bool
-        ensures { IsTrue result ↔ ((self.now.waiting ≡ []) × (IsSome self.now.parting ⊎ IsOpen self.now)) }
-    {
-        self.waiting.is_empty() && (self.parting.is_some() || self.is_open())
-    }
-
-    /// Whether bytes wait to go out.
-    pub fn waits_to_send(&self) -> bool
-        ensures { IsTrue result ↔ (0 < length self.now.waiting) }
-    {
-        !self.waiting.is_empty()
-    }
-
-    /// When its next read can answer something other than `Pending` though nothing came, in
-    /// milliseconds: at its next quiet, or when bytes will have waited for a second. `u64::MAX`
-    /// where nobody is connected.
-    pub fn deadline(&self) -> u64
-        ensures waits { 0 < length self.now.waiting → result ≡ min (self.now.since + 1000) u64.MAX }
-        ensures quiet { self.now.waiting ≡ [] → IsSome self.now.connection → result ≡ due self.now }
-        ensures absent { self.now.waiting ≡ [] → self.now.connection ≡ None → result ≡ u64.MAX }
-    {
-        if !self.waiting.is_empty() {
-            return self.since.saturating_add(STALL_TIME);
-        }
-        if self.connection.is_some() {
-            self.silence.begun.saturating_add(self.silence.quiet)
-        } else {
-            u64::MAX
-        }
-    }
-
-    /// When its silence began, or its last quiet or prompt came, in milliseconds.
-    pub fn begun(&self) -> u64
-        ensures { result ≡ self.now.begun }
-    {
-        self.silence.begun
-    }
-
-    /// The last two bytes that came.
-    pub fn last_bytes(&self) -> LastBytes
-        ensures { result ≡ self.now.last_bytes }
-    {
-        self.silence.last_bytes
-    }
-
-    /// How many bytes its reads answered, on all its connections.
-    pub fn came(&self) -> u64
-        ensures { result ≡ self.now.came }
-    {
-        self.counts.came
-    }
-
-    /// How many bytes of frames it took to send, on all its connections.
-    pub fn went(&self) -> u64
-        ensures { result ≡ self.now.went }
-    {
-        self.counts.went
-    }
-
-    /// For how many milliseconds nothing came on its connection.
-    pub fn silent_for(&self) -> u64
-        ensures { result ≡ self.now.clock - self.now.heard }
-    {
-        self.clock.saturating_sub(self.silence.heard)
-    }
-
-    /// Sends on what waits, as far as it goes now. Where that fails the connection is dropped, and
-    /// the next read answers a fault.
-    pub fn flush(&mut self)
-        ensures idle { self.old.waiting ≡ [] → self.new ≡ self.old }
-        ensures flushed { 0 < length self.old.waiting → IsFlushed C.moved self.old self.new }
-    {
-        if self.waiting.is_empty() {
-            return;
-        }
-        match send_on(&mut self.connection, self.waiting.as_slice()) {
-            Ok(went) => self.waiting.remove_front(went),
-            Err(_) => self.part(Parting::Failed, ConnectionEnd::Failed),
-        }
     }
 
     /// A connection, or none, is there anew.
@@ -283,12 +239,13 @@ impl<C: Connection + Drop> LineWire<C> {
     {
         self.connection = connection;
         self.next = None;
-        self.parting = None;
+        self.ending.parting = None;
         self.waiting.clear();
-        self.readable = true;
-        self.up = false;
-        self.silence.begun = self.clock;
-        self.silence.heard = self.clock;
+        self.marks.readable = true;
+        self.marks.up = false;
+        self.silence.begun = self.marks.clock;
+        self.silence.heard = self.marks.clock;
+        self.patience.sent = self.marks.clock;
     }
 
     /// The connection is dropped with what waits, and the next read is to tell.
@@ -297,8 +254,8 @@ impl<C: Connection + Drop> LineWire<C> {
     {
         self.connection = None;
         self.waiting.clear();
-        self.parting = Some(parting);
-        self.end = Some(end);
+        self.ending.parting = Some(parting);
+        self.ending.end = Some(end);
     }
 
     /// Takes the next connection, if there is one.
@@ -322,7 +279,7 @@ impl<C: Connection + Drop> LineWire<C> {
     fn is_open(&self) -> bool
         ensures { IsTrue result ↔ IsOpen self.now }
     {
-        self.connection.is_some() && self.readable && self.parting.is_none()
+        self.connection.is_some() && self.marks.readable && self.ending.parting.is_none()
     }
 
     /// Gives the connection up.
@@ -368,18 +325,23 @@ impl<C: Connection + Drop> Wire for LineWire<C> {
         ensures answered { IsTallied self.old self.new (answer_acts (heard_of result into.new)) }
         ensures prompted { result ≡ Ok Reading.Prompted → IsTrue is_prompted }
         ensures withheld { IsWithheld C.moved self.old self.new }
-        ensures waits { 0 < length self.old.waiting → IsWait self.old result self.new }
-        ensures reads { self.old.waiting ≡ [] →
+        ensures waits { self.old.protocol ≡ Protocol.Bisync →
+            0 < length self.old.waiting → IsWait self.old result self.new }
+        ensures reads { self.old.protocol ≡ Protocol.Bisync → self.old.waiting ≡ [] →
             IsRead C.moved C.stops self.old is_prompted result into.new self.new }
+        ensures waits_by_tcp { self.old.protocol ≡ Protocol.Tcp → 0 < length self.old.waiting →
+            IsWaitByTcp C.moved C.stops self.old result into.new self.new }
+        ensures reads_by_tcp { self.old.protocol ≡ Protocol.Tcp → self.old.waiting ≡ [] →
+            IsReadByTcp C.moved C.stops self.old is_prompted result into.new self.new }
         ensures strange { ¬ IsTrue self.old.up → IfOk result (IsStrangersReading into.new) }
         ensures within { IfOk result (IsReading (length into.new)) }
         ensures counts { self.old.failures ≤ self.new.failures }
         ensures counted { OnErr result (IsCounted self.old.failures self.new.failures) }
     {
-        if !self.waiting.is_empty() {
-            return self.wait_to_send();
+        match self.patience.protocol {
+            Protocol::Bisync => self.read_bisync(into, is_prompted),
+            Protocol::Tcp => self.read_by_tcp(into, is_prompted),
         }
-        self.read_open(into, is_prompted)
     }
 
     fn write(&mut self, frame: &[u8]) -> Result<(), WireFault>

@@ -2,7 +2,9 @@
 
 ghost use Rattle.std.specs.Prelude.{◌≡◌, ◌+◌, ◌≤◌, [], ◌++◌, length, drop, IsTrue, ◌↔◌, IfOk};
 ghost use Rattle.std.specs.Bool.{OnTrue, OnFalse};
+ghost use Rattle.njh_bisync.specs.Limits.{longest_frame};
 
+use njh_bisync::LONGEST_FRAME;
 use std::alloc::{AllocError, Global};
 use std::marker::Model;
 
@@ -58,6 +60,15 @@ impl Outbox {
         self.bytes.drain(..count);
     }
 
+    /// Has the bytes of another one, which has none then. Its own are dropped.
+    pub(crate) fn take_all(&mut self, other: &mut Outbox)
+        ensures taken { self.new ≡ other.old }
+        ensures left { other.new ≡ [] }
+    {
+        std::mem::swap(self, other);
+        other.clear();
+    }
+
     /// Drops all bytes.
     pub(crate) fn clear(&mut self)
         ensures { self.new ≡ [] }
@@ -70,6 +81,13 @@ impl Outbox {
         ensures { result.now ≡ self.now }
     {
         &self.bytes
+    }
+
+    /// Whether the longest frame has room besides.
+    pub(crate) fn has_room(&self) -> bool
+        ensures { IsTrue result ↔ (length self.now + longest_frame ≤ ROOM) }
+    {
+        self.bytes.len() + LONGEST_FRAME <= ROOM
     }
 
     /// Whether none wait.

@@ -23,4 +23,6 @@ mod service_tests;
 #[cfg(test)]
 mod serving;
 #[cfg(test)]
+mod tcp_wire_tests;
+#[cfg(test)]
 mod wire_tests;

@@ -3,8 +3,13 @@
 ghost use Rattle.std.specs.Prelude.{◌≤◌, length, IfOk};
 ghost use Rattle.njh_wire.specs.Moved.{IsReceived};
 
-use njh_wire::{Connection, ConnectionFault, ConnectionRead};
+use njh_table::Role;
+use njh_wire::{Connection, ConnectionFault, ConnectionRead, Saying};
+use std::alloc::{AllocError, Global};
 use std::cell::Cell;
+
+/// The byte that a connection answers in the place of its peer.
+const ANSWER: u8 = 0x70;
 
 /// The other end of a connection. The bytes that it takes count up from 0, modulo 256, so that one
 /// that is lost or comes too early shows. Those that it gives count up too.
@@ -15,6 +20,11 @@ pub struct Peer {
     pub ended: Cell<bool>,
     /// Whether every call fails once nothing is there to read.
     pub broken: Cell<bool>,
+    /// Whether the connection owes its line an answer in its place.
+    pub owed: Cell<bool>,
+    /// What its connection was told to say last, and whether that sends no more.
+    pub said: Cell<Option<Saying>>,
+    pub shut: Cell<bool>,
     /// How many bytes it still takes, how many it took, and in how many calls.
     pub room: Cell<usize>,
     pub taken: Cell<usize>,
@@ -33,6 +43,9 @@ impl Peer {
             coming: Cell::new(0),
             ended: Cell::new(false),
             broken: Cell::new(false),
+            owed: Cell::new(false),
+            said: Cell::new(None),
+            shut: Cell::new(false),
             room: Cell::new(1_000_000),
             taken: Cell::new(0),
             sends: Cell::new(0),
@@ -131,5 +144,27 @@ impl<'a> Connection for MemoryConnection<'a> {
             .set(self.peer.taken.get().saturating_add(count));
         self.peer.sends.set(self.peer.sends.get().saturating_add(1));
         Ok(count)
+    }
+
+    fn acknowledge(&mut self, into: &mut [u8]) -> usize {
+        if into.is_empty() || !self.peer.owed.get() {
+            return 0;
+        }
+        self.peer.owed.set(false);
+        into[0] = ANSWER;
+        1
+    }
+
+    fn by_tcp(self, _alloc: Global, _role: Role) -> Result<MemoryConnection<'a>, AllocError> {
+        Ok(self)
+    }
+
+    fn say(&mut self, saying: Saying) {
+        self.peer.said.set(Some(saying));
+    }
+
+    fn shut(&mut self) -> bool {
+        self.peer.shut.set(true);
+        true
     }
 }

@@ -1,8 +1,9 @@
 //! Plays steps on a wire of a line.
 
 use crate::memory_connection::{MemoryConnection, Peer};
+use njh_table::Protocol;
 use njh_turns::{Reading, Wire, WireFault};
-use njh_wire::{ConnectionEnd, LineWire};
+use njh_wire::{ConnectionEnd, LineWire, Saying};
 use std::alloc::Global;
 use std::process::Abort;
 use std::test::Fail;
@@ -20,6 +21,10 @@ pub enum Step {
     Gives(usize, u8),
     /// A session is up on the connection.
     Up,
+    /// The wire's line is over TCP/IP.
+    ByTcp,
+    /// A peer's connection owes the line an answer.
+    Owes(usize),
     /// A peer sends no more, and the wire is told.
     Ends(usize),
     /// A peer is gone, and the wire is told.
@@ -32,12 +37,22 @@ pub enum Step {
     Flush,
     /// The connection is closed from here.
     Close,
+    /// Who leaves is let go on.
+    Leave,
+    /// The peer is told this.
+    Say(Saying),
     /// A read answers this.
     Read(Result<Reading, WireFault>),
     /// A read that is prompted answers this.
     Prompt(Result<Reading, WireFault>),
     /// The wire is due then.
     Due(u64),
+    /// Who leaves is to be let go on then.
+    Leaves(u64),
+    /// The peer is to be told then that this end is there.
+    Alive(u64),
+    /// A peer was told this last, and whether no more is sent to it.
+    Told(usize, Option<Saying>, bool),
     /// The wire is ready or not, and something waits to go out on it or not.
     Is(bool, bool),
     /// A peer took so many bytes in so many sends.
@@ -91,6 +106,8 @@ impl<'a> Player<'a> {
             }
             Step::Gives(at, byte) => peer(rt, self.peers, at).given.set(byte),
             Step::Up => self.wire.set_up(true),
+            Step::ByTcp => self.wire.set_protocol(Protocol::Tcp),
+            Step::Owes(at) => peer(rt, self.peers, at).owed.set(true),
             Step::Ends(at) => {
                 peer(rt, self.peers, at).ended.set(true);
                 self.wire.mark_readable();
@@ -106,6 +123,8 @@ impl<'a> Player<'a> {
             }
             Step::Flush => self.wire.flush(),
             Step::Close => self.wire.close(),
+            Step::Leave => self.wire.let_leave(),
+            Step::Say(saying) => self.wire.say(saying),
             _ => self.find(rt, name, step),
         }
         Ok(())
@@ -117,6 +136,13 @@ impl<'a> Player<'a> {
             Step::Read(want) => self.read(rt, name, false, want),
             Step::Prompt(want) => self.read(rt, name, true, want),
             Step::Due(want) => assert_eq!(rt; self.wire.deadline(), want, "{name}"),
+            Step::Leaves(want) => assert_eq!(rt; self.wire.leaves_at(), want, "{name}"),
+            Step::Alive(want) => assert_eq!(rt; self.wire.alive_at(), want, "{name}"),
+            Step::Told(at, want, is_shut) => {
+                let found = peer(rt, self.peers, at);
+                assert_eq!(rt; found.said.get(), want, "{name}");
+                assert_eq!(rt; found.shut.get(), is_shut, "{name}");
+            }
             Step::Is(ready, waits) => {
                 assert_eq!(rt; self.wire.is_ready(), ready, "{name}");
                 assert_eq!(rt; self.wire.waits_to_send(), waits, "{name}");

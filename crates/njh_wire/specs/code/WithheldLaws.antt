@@ -11,5 +11,5 @@ withheld_then moved (gives s last before after bytes connected moves more) then 
     gives s _ before after bytes connected moves (withheld_then moved more then)
 withheld_then moved (drops s last parting end more) then = drops s _ parting end (withheld_then moved more then)
 withheld_then moved (follows s last more) then = follows s _ (withheld_then moved more then)
-withheld_then moved (stays s new last added same next waits more) then =
-    stays s new _ added same next waits (withheld_then moved more then)
+withheld_then moved (stays s new last added same next leaves waits more) then =
+    stays s new _ added same next leaves waits (withheld_then moved more then)

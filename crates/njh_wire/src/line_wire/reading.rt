@@ -1,11 +1,13 @@
-//! What a wire of a line answers at a read.
+//! What a wire of a bisync line answers at a read.
 
-ghost use Rattle.std.specs.Prelude.{◌≡◌, ◌<◌, ◌≤◌, length, take, IfOk, IsTrue, OnErr};
+ghost use Rattle.std.specs.Prelude.{◌≡◌, ◌<◌, ◌≤◌, [], length, take, IfOk, IsTrue, Ok, OnErr};
 ghost use Rattle.njh_hub.specs.Sent.{IsCounted};
-ghost use Rattle.njh_turns.specs.Wires.{IsReading};
+ghost use Rattle.njh_turns.specs.Wires.{answer_acts, heard_of, IsReading};
 ghost use Rattle.njh_wire.specs.OneFrame.{IsStrange, IsStrangersReading};
 ghost use Rattle.njh_wire.specs.Standing.{after_stop, last_bytes_after, hearing};
 ghost use Rattle.njh_wire.specs.Readings.{IsSilence, IsAnswer, IsOpen, IsWait, IsRead, Receives};
+ghost use Rattle.njh_wire.specs.Tally.{IsTallied};
+ghost use Rattle.njh_wire.specs.Withheld.{IsWithheld};
 
 use super::{LineWire, STALL_TIME};
 use crate::calls::receive_on;
@@ -15,13 +17,37 @@ use crate::last_bytes::LastBytes;
 use njh_turns::{Reading, WireFault};
 
 impl<C: Connection + Drop> LineWire<C> {
+    /// What the wire of a bisync line answers at a read.
+    pub(super) fn read_bisync(
+        &mut self,
+        into: &mut [u8],
+        is_prompted: bool,
+    ) -> Result<Reading, WireFault>
+        requires { 0 < length into.old }
+        ensures answered { IsTallied self.old self.new (answer_acts (heard_of result into.new)) }
+        ensures prompted { result ≡ Ok Reading.Prompted → IsTrue is_prompted }
+        ensures withheld { IsWithheld C.moved self.old self.new }
+        ensures waits { 0 < length self.old.waiting → IsWait self.old result self.new }
+        ensures reads { self.old.waiting ≡ [] →
+            IsRead C.moved C.stops self.old is_prompted result into.new self.new }
+        ensures strange { ¬ IsTrue self.old.up → IfOk result (IsStrangersReading into.new) }
+        ensures within { IfOk result (IsReading (length into.new)) }
+        ensures counts { self.old.failures ≤ self.new.failures }
+        ensures counted { OnErr result (IsCounted self.old.failures self.new.failures) }
+    {
+        if !self.waiting.is_empty() {
+            return self.wait_to_send();
+        }
+        self.read_open(into, is_prompted)
+    }
+
     /// What it answers while bytes wait to go out.
-    pub(super) fn wait_to_send(&mut self) -> Result<Reading, WireFault>
+    fn wait_to_send(&mut self) -> Result<Reading, WireFault>
         ensures answer { IsWait self.old result self.new }
         ensures counts { self.old.failures ≤ self.new.failures }
         ensures counted { OnErr result (IsCounted self.old.failures self.new.failures) }
     {
-        if self.clock.saturating_sub(self.since) < STALL_TIME {
+        if self.marks.clock.saturating_sub(self.patience.since) < STALL_TIME {
             return Ok(Reading::Pending);
         }
         self.give_up(ConnectionEnd::Stalled);
@@ -29,11 +55,7 @@ impl<C: Connection + Drop> LineWire<C> {
     }
 
     /// What it answers while nothing waits to go out.
-    pub(super) fn read_open(
-        &mut self,
-        into: &mut [u8],
-        is_prompted: bool,
-    ) -> Result<Reading, WireFault>
+    fn read_open(&mut self, into: &mut [u8], is_prompted: bool) -> Result<Reading, WireFault>
         requires { 0 < length into.old }
         ensures read { IsRead C.moved C.stops self.old is_prompted result into.new self.new }
         ensures strange { ¬ IsTrue self.old.up → IfOk result (IsStrangersReading into.new) }
@@ -52,12 +74,12 @@ impl<C: Connection + Drop> LineWire<C> {
     }
 
     /// What it answers where nothing came of reading.
-    fn answer(&mut self, is_prompted: bool) -> Result<Reading, WireFault>
+    pub(super) fn answer(&mut self, is_prompted: bool) -> Result<Reading, WireFault>
         ensures answer { IsAnswer self.old is_prompted result self.new }
         ensures counts { self.old.failures ≤ self.new.failures }
         ensures counted { OnErr result (IsCounted self.old.failures self.new.failures) }
     {
-        match self.parting {
+        match self.ending.parting {
             Some(Parting::Closed) => {
                 self.advance();
                 Ok(Reading::Closed)
@@ -79,25 +101,25 @@ impl<C: Connection + Drop> LineWire<C> {
             return Reading::Absent;
         }
         if is_prompted {
-            self.silence.begun = self.clock;
+            self.silence.begun = self.marks.clock;
             return Reading::Prompted;
         }
-        if self.clock < self.silence.begun.saturating_add(self.silence.quiet) {
+        if self.marks.clock < self.silence.begun.saturating_add(self.silence.quiet) {
             return Reading::Pending;
         }
-        self.silence.begun = self.clock;
+        self.silence.begun = self.marks.clock;
         Reading::Quiet
     }
 
     /// Reads the connection, and answers how many bytes came.
-    fn receive(&mut self, into: &mut [u8]) -> usize
+    pub(super) fn receive(&mut self, into: &mut [u8]) -> usize
         requires open { IsOpen self.old }
         requires room { 0 < length into.old }
         ensures received { Receives C.moved C.stops self.old (take result into.new) self.new }
         ensures strange { ¬ IsTrue self.old.up → IsStrange (take result into.new) }
         ensures within { result ≤ length into.new }
     {
-        let (count, stop) = receive_on(&mut self.connection, self.up, into);
+        let (count, stop) = receive_on(&mut self.connection, self.marks.up, into);
         self.stop(stop);
         count
     }
@@ -107,26 +129,30 @@ impl<C: Connection + Drop> LineWire<C> {
         ensures stands { self.new ≡ after_stop stop self.old }
     {
         match stop {
-            Stop::Full => {}
-            Stop::Dry => self.readable = false,
+            Stop::Full | Stop::Paused => {}
+            Stop::Dry => self.marks.readable = false,
             Stop::Ended => {
-                self.parting = Some(Parting::Closed);
-                self.end = Some(ConnectionEnd::Ended);
+                self.ending.parting = Some(Parting::Closed);
+                self.ending.end = Some(ConnectionEnd::Ended);
             }
             Stop::Failed => {
-                self.parting = Some(Parting::Failed);
-                self.end = Some(ConnectionEnd::Failed);
+                self.ending.parting = Some(Parting::Failed);
+                self.ending.end = Some(ConnectionEnd::Failed);
+            }
+            Stop::Refused(fault) => {
+                self.ending.parting = Some(Parting::Failed);
+                self.ending.end = Some(ConnectionEnd::Refused(fault));
             }
         }
     }
 
     /// These bytes came now, and count.
-    fn hear(&mut self, bytes: &[u8])
+    pub(super) fn hear(&mut self, bytes: &[u8])
         requires { 0 < length bytes.now }
         ensures { self.new ≡ hearing bytes.now self.old }
     {
-        self.silence.begun = self.clock;
-        self.silence.heard = self.clock;
+        self.silence.begun = self.marks.clock;
+        self.silence.heard = self.marks.clock;
         self.silence.last_bytes = last_bytes_after(bytes, self.silence.last_bytes);
         self.counts.came = self.counts.came.saturating_add(bytes.len() as u64);
     }

@@ -29,6 +29,14 @@ returns-in-Ok-Nothing-clause-moved g c =
     moved_none g.C.Connection.moved g.met.C.Connection.more _ _ _ _ _ _ _ split.front_len split.front
     c.loop-count.invariant.0 (subst Came c.in-Ok-Nothing.field-0-is c.in-Ok-Nothing.ensures.moved)
 
+pub returns-in-Ok-Paused-clause-moved : goal.returns-in-Ok-Paused-clause-moved
+returns-in-Ok-Paused-clause-moved g c =
+    let split = c.split_at_mut-rest.ensures in
+    let Came : ConnectionRead → Type 0 = λ received. g.C.Connection.moved c.loop-count.connection c.receive.new.self
+    (bytes_given (Ok received) c.receive.new.into) [] in
+    moved_none g.C.Connection.moved g.met.C.Connection.more _ _ _ _ _ _ _ split.front_len split.front
+    c.loop-count.invariant.0 (subst Came c.in-Ok-Paused.field-0-is c.in-Ok-Paused.ensures.moved)
+
 pub returns-in-Ok-Ended-clause-moved : goal.returns-in-Ok-Ended-clause-moved
 returns-in-Ok-Ended-clause-moved g c =
     let split = c.split_at_mut-rest.ensures in
@@ -36,6 +44,14 @@ returns-in-Ok-Ended-clause-moved g c =
     (bytes_given (Ok received) c.receive.new.into) [] in
     moved_none g.C.Connection.moved g.met.C.Connection.more _ _ _ _ _ _ _ split.front_len split.front
     c.loop-count.invariant.0 (subst Came c.in-Ok-Ended.field-0-is c.in-Ok-Ended.ensures.moved)
+
+pub returns-in-Ok-Refused-clause-moved : goal.returns-in-Ok-Refused-clause-moved
+returns-in-Ok-Refused-clause-moved g c =
+    let split = c.split_at_mut-rest.ensures in
+    let Came : ConnectionRead → Type 0 = λ received. g.C.Connection.moved c.loop-count.connection c.receive.new.self
+    (bytes_given (Ok received) c.receive.new.into) [] in
+    moved_none g.C.Connection.moved g.met.C.Connection.more _ _ _ _ _ _ _ split.front_len split.front
+    c.loop-count.invariant.0 (subst Came c.in-Ok-Refused.field-0-is c.in-Ok-Refused.ensures.moved)
 
 pub returns-in-Err-clause-moved : goal.returns-in-Err-clause-moved
 returns-in-Err-clause-moved g c =

@@ -1,7 +1,7 @@
 use Rattle.njh_wire.proofs.PromptLaws.{wait_unprompted, read_prompted}
 use Rattle.njh_wire.proofs.TallyLaws.{wait_tallies, read_tallies}
 use Rattle.njh_wire.proofs.WithheldLaws.{wait_withholds, read_withholds}
-use Rattle.njh_wire.proofs.line_wire.LineWireWire.read.Goals as goal
+use Rattle.njh_wire.proofs.line_wire.LineWire.read_bisync.Goals as goal
 
 pub returns-then-not-is_empty-clause-answered : goal.returns-then-not-is_empty-clause-answered
 returns-then-not-is_empty-clause-answered g c =
