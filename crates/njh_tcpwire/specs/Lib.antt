@@ -1,0 +1,4 @@
+pub mod Moves
+pub mod Sayings
+pub mod LineConnections
+pub mod code
