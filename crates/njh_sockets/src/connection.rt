@@ -1,8 +1,11 @@
 //! A connection over a socket.
 
 use mio::net::TcpStream;
+use njh_table::Role;
 use njh_wire::{Connection, ConnectionFault, ConnectionRead};
+use std::alloc::{AllocError, Global};
 use std::io::{ErrorKind, Read, Write};
+use std::net::Shutdown;
 
 /// A connection over a socket whose calls never wait.
 #[derive(Drop)]
@@ -46,6 +49,16 @@ impl Connection for MioConnection {
             Err(error) if is_wait(error.kind()) => Ok(0),
             Err(_) => Err(ConnectionFault),
         }
+    }
+
+    fn by_tcp(self, _alloc: Global, _role: Role) -> Result<MioConnection, AllocError> {
+        Ok(self)
+    }
+
+    fn shut(&mut self) -> bool {
+        // One that can't be shut sends no more either.
+        let _ = self.stream.shutdown(Shutdown::Write);
+        true
     }
 }
 
