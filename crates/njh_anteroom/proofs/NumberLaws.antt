@@ -32,7 +32,7 @@ any_remove q (x ∷ xs) (suc i) none =
 distinct_cons : (n : ℕ) (ns : List ℕ) → is_among n ns ≡ false → are_distinct ns ≡ true → are_distinct (n ∷ ns) ≡ true
 distinct_cons n ns new rest = and_from (not (is_among n ns)) (are_distinct ns) (ap not new) rest
 
-first_new : (n : ℕ) (ns : List ℕ) → are_distinct (n ∷ ns) ≡ true → is_among n ns ≡ false
+pub first_new : (n : ℕ) (ns : List ℕ) → are_distinct (n ∷ ns) ≡ true → is_among n ns ≡ false
 first_new n ns all = not-true (is_among n ns) (and_parts (not (is_among n ns)) (are_distinct ns) all).0
 
 pub rest_distinct : (n : ℕ) (ns : List ℕ) → are_distinct (n ∷ ns) ≡ true → are_distinct ns ≡ true

@@ -6,6 +6,7 @@ use Rattle.std.proofs.Common.{IfSome, max, slice_get}
 use Rattle.std.specs.List.{list_any, position_or_len}
 use Rattle.std.specs.Option.{option_or, option_map_or}
 use Rattle.std.proofs.lemmas.Bool.{and_from, both_ways, eqb-false, eqb-true, false_from_ne_true, le-leb, leb-false}
+use Rattle.std.proofs.lemmas.Bool.{ne_eqb, or_from}
 use Rattle.std.proofs.lemmas.Bool.{leb-true, lt-ltb, ltb-false, ltb-true, or_cases, or_left, or_parts, or_right}
 use Rattle.std.proofs.lemmas.List.{append-nil, map-append, map-set, set-get_or, length-append, length-set}
 use Rattle.std.proofs.lemmas.List.{length-take-le, get_or-map, take_more}
@@ -17,14 +18,14 @@ use Rattle.njh_anteroom.specs.Addresses.{are_distinct, is_among, is_loopback}
 use Rattle.njh_anteroom.specs.Next.{displaced, displacement, entry_at, entry_of, first_moment, greatest_rank}
 use Rattle.njh_anteroom.specs.Next.{has_paused, has_rank, last_of_greatest, last_place, next_place, rank_in}
 use Rattle.njh_anteroom.specs.Remembered.{has_blemish, is_recent, rank_at, rank_of, remembered_of, until_of}
-use Rattle.njh_anteroom.specs.Waiting.{is_from, number_in, numbers_in, place_of, IsQueue}
+use Rattle.njh_anteroom.specs.Waiting.{is_from, number_in, numbers_in, place_of, HasPlace, IsQueue}
 use Rattle.njh_anteroom.specs.code.Seats.{IsFree}
 use Rattle.njh_anteroom.specs.declared.entry.Entry.{Entry}
 use Rattle.njh_anteroom.specs.declared.entry.Entry.TheVariants.{Added, TurnedAway}
 use Rattle.njh_anteroom.specs.declared.guest.Guest.{Guest}
 use Rattle.njh_anteroom.specs.declared.remembered.Remembered.{Remembered}
 use Rattle.njh_anteroom.proofs.NumberLaws.{any_filter, any_remove, distinct_push, distinct_remove, length_remove}
-use Rattle.njh_anteroom.proofs.NumberLaws.{map_remove}
+use Rattle.njh_anteroom.proofs.NumberLaws.{first_new, map_remove}
 
 -- ---- a first place
 
@@ -134,6 +135,47 @@ pub free_removed : {C : Type 0} (n : ℕ) (waiting : List (Guest C)) (i : ℕ) �
     → IsFree n (remove waiting i)
 free_removed n waiting i free stranger =
     ap (is_among n) (map_remove number_in waiting i) ∙ any_remove (λ m. eqb m n) (numbers_in waiting) i (free stranger)
+
+-- ---- who was first may wait again
+
+among_case : (n m : ℕ) (kept ns : List ℕ) (b : Bool) → is_loopback m ≡ b → is_loopback n ≡ false
+    → is_among n (cond (not b) (m ∷ kept) kept) ≡ false → (is_among n kept ≡ false → is_among n ns ≡ false)
+    → is_among n (m ∷ ns) ≡ false
+among_case n m kept ns true is stranger none rest =
+    let differs : eqb m n ≡ false =
+    ne_eqb m n (λ same. both_ways (is_loopback n) stranger (ap is_loopback (sym same) ∙ is)) in
+    or_from (eqb m n) (is_among n ns) differs (rest none)
+among_case n m kept ns false is stranger none rest =
+    let parts = or_parts (eqb m n) (is_among n kept) none in
+    or_from (eqb m n) (is_among n ns) parts.0 (rest parts.1)
+
+among_all : (n : ℕ) (ns : List ℕ) → is_loopback n ≡ false
+    → is_among n (filter (λ m. not (is_loopback m)) ns) ≡ false → is_among n ns ≡ false
+among_all n [] stranger none = refl
+among_all n (m ∷ ns) stranger none =
+    among_case n m (filter (λ k. not (is_loopback k)) ns) ns (is_loopback m) refl stranger none
+    (among_all n ns stranger)
+
+stranger_case : (n : ℕ) (kept : List ℕ) (b : Bool) → b ≡ false
+    → are_distinct (cond (not b) (n ∷ kept) kept) ≡ true → is_among n kept ≡ false
+stranger_case n kept true stranger all = cc
+stranger_case n kept false stranger all = first_new n kept all
+
+first_returns : {C : Type 0} (guest : Guest C) (rest : List (Guest C)) → IsQueue (guest ∷ rest)
+    → HasPlace (number_in guest) rest
+first_returns guest rest q =
+    let n = number_in guest in (
+      omega (arith, q.few),
+      λ stranger. among_all n (numbers_in rest) stranger
+          (stranger_case n (filter (λ m. not (is_loopback m)) (numbers_in rest)) (is_loopback n) stranger q.distinct),
+    )
+
+pub taken_returns : {C : Type 0} (waiting : List (Guest C)) (guest : Guest C) → slice_get waiting 0 ≡ Some guest
+    → IsQueue waiting → HasPlace (number_in guest) (remove waiting 0)
+taken_returns [] guest is q = cc
+taken_returns {C} (first ∷ rest) guest is q =
+    let At : Guest C → Type 0 = λ one. HasPlace (number_in one) rest in
+    subst At (get_or_from_slice_get (first ∷ rest) 0 guest guest is) (first_returns first rest q)
 
 -- ---- the last place
 

@@ -1,10 +1,10 @@
 -- Who waits, in the order in which they came.
-use Rattle.std.specs.Prelude.{◌≡◌, ℕ, ◌≤◌, ◌==◌, Bool, true, not, List, [], ◌∷◌, ◌++◌, length, filter, map, position}
+use Rattle.std.specs.Prelude.{◌≡◌, ℕ, ◌<◌, ◌≤◌, ◌==◌, Bool, true, false, not, List, [], ◌∷◌, ◌++◌, length, filter, map, position}
 use Rattle.std.specs.Prelude.{remove}
 use Rattle.std.specs.Prelude.{slice_set, cond, Option, None}
 use Rattle.std.specs.Net.Socket.{socket_ip}
 use Rattle.njh_table.specs.Ranges.{number_of}
-use Rattle.njh_anteroom.specs.Addresses.{are_distinct, is_loopback}
+use Rattle.njh_anteroom.specs.Addresses.{are_distinct, is_among, is_loopback}
 use Rattle.njh_anteroom.specs.declared.entry.Entry.{Entry}
 use Rattle.njh_anteroom.specs.declared.entry.Entry.TheVariants.{Renewed, Added, Displaced, TurnedAway}
 use Rattle.njh_anteroom.specs.declared.guest.Guest.{Guest}
@@ -35,3 +35,8 @@ seated TurnedAway guest waiting = waiting
 pub record IsQueue {C : Type 0} (waiting : List (Guest C)) : Type 0 where
   pub few : length waiting ≤ 8
   pub distinct : are_distinct (filter (λ number. not (is_loopback number)) (numbers_in waiting)) ≡ true
+
+-- one from the address with this number may wait behind all others: no other waits from there, unless it is loopback
+abbrev pub HasPlace : {C : Type 0} → ℕ → List (Guest C) → Type 0
+HasPlace number waiting =
+    (length waiting < 8) × (is_loopback number ≡ false → is_among number (numbers_in waiting) ≡ false)

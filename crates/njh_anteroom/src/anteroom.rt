@@ -1,6 +1,6 @@
 //! The anteroom of a line that listens.
 
-ghost use Rattle.std.specs.Prelude.{◌≡◌, ◌≢◌, ◌<◌, ◌≤◌, All, IfOk, IfSome, IsSome, length, true};
+ghost use Rattle.std.specs.Prelude.{◌≡◌, ◌≢◌, ◌<◌, ◌≤◌, All, IfOk, IfSome, IsSome, length, slice_get, true};
 ghost use Rattle.std.specs.Net.Socket.{socket_ip};
 ghost use Rattle.njh_table.specs.Ranges.{number_of};
 ghost use Rattle.njh_anteroom.specs.Next.{displacement, entry_of, first_moment, guest_at, next_place, rank_in};
@@ -8,7 +8,7 @@ ghost use Rattle.njh_anteroom.specs.Next.{without_place};
 ghost use Rattle.njh_anteroom.specs.Remembered.{ended, rank_of, with_session, IsMemory};
 ghost use Rattle.njh_anteroom.specs.Remembered.{refusals_of};
 ghost use Rattle.njh_anteroom.specs.Rooms.{empty_room};
-ghost use Rattle.njh_anteroom.specs.Waiting.{seated, IsQueue};
+ghost use Rattle.njh_anteroom.specs.Waiting.{number_in, seated, HasPlace, IsQueue};
 ghost use Rattle.njh_anteroom.specs.code.Seats.{Fits, IsFree};
 
 use crate::entry::Entry;
@@ -40,7 +40,7 @@ impl<C: Drop> Model for Anteroom<C> {
 }
 
 impl<C: Drop> Anteroom<C> {
-    ghost use Rattle.std.specs.Prelude.{[]};
+    ghost use Rattle.std.specs.Prelude.{[], ◌∷◌, ◌++◌, remove};
 
     /// Nobody waits, and nothing is remembered. Out of memory is the only refusal.
     pub fn new(alloc: Global) -> Result<Anteroom<C>, AllocError>
@@ -158,6 +158,25 @@ impl<C: Drop> Anteroom<C> {
         ensures { result ≡ first_moment self.now.remembered self.now.waiting }
     {
         self.queue.first_moment(&self.memory)
+    }
+
+    /// Takes out who waits before all others, and may wait again.
+    pub fn take_first(&mut self) -> Option<Guest<C>>
+        ensures guest { result ≡ slice_get self.old.waiting 0 }
+        ensures waiting { self.new.waiting ≡ remove self.old.waiting 0 }
+        ensures remembered { self.new.remembered ≡ self.old.remembered }
+        ensures returns { IfSome result (λ guest. HasPlace (number_in guest) self.new.waiting) }
+    {
+        self.queue.take_first()
+    }
+
+    /// One that was taken out waits again, behind all others.
+    pub fn put_last(&mut self, guest: Guest<C>)
+        requires { HasPlace (number_in guest) self.old.waiting }
+        ensures waiting { self.new.waiting ≡ self.old.waiting ++ guest ∷ [] }
+        ensures remembered { self.new.remembered ≡ self.old.remembered }
+    {
+        self.queue.add(guest);
     }
 
     /// A connection of an address ended without a session, or since its sign-on was refused.

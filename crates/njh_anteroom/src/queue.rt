@@ -2,7 +2,7 @@
 
 ghost use Rattle.std.specs.Prelude.{◌≡◌, ◌<◌, length, nat_lt, slice_get, IfOk, IfSome};
 ghost use Rattle.njh_anteroom.specs.Next.{first_moment, greatest_rank, last_of_greatest, next_place};
-ghost use Rattle.njh_anteroom.specs.Waiting.{number_in, place_of, seated, IsQueue};
+ghost use Rattle.njh_anteroom.specs.Waiting.{number_in, place_of, seated, HasPlace, IsQueue};
 ghost use Rattle.njh_anteroom.specs.code.Seats.{Fits, IsFree};
 
 use crate::address::is_loopback;
@@ -133,7 +133,7 @@ impl<C: Drop> Queue<C> {
     }
 
     /// One waits behind all others.
-    fn add(&mut self, guest: Guest<C>)
+    pub(crate) fn add(&mut self, guest: Guest<C>)
         requires { Fits Entry.Added (number_in guest) self.old }
         ensures { self.new ≡ self.old ++ guest ∷ [] }
     {
@@ -148,6 +148,18 @@ impl<C: Drop> Queue<C> {
         ensures room { length self.new < 8 }
     {
         self.guests.remove(place)
+    }
+
+    /// Takes out who came first, and may wait again.
+    pub(crate) fn take_first(&mut self) -> Option<Guest<C>>
+        ensures guest { result ≡ slice_get self.old 0 }
+        ensures rest { self.new ≡ remove self.old 0 }
+        ensures returns { IfSome result (λ guest. HasPlace (number_in guest) self.new) }
+    {
+        if self.guests.is_empty() {
+            return None;
+        }
+        Some(self.take(0))
     }
 
     /// All are dropped.
