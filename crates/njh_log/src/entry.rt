@@ -12,9 +12,12 @@ use njh_ebcdic::{Name, text_of};
 use njh_header::{Destination, FileName, User};
 use njh_hub::{FileSummaryView, HubFault};
 use njh_line::Refusal;
+use njh_link::LinkFault;
+use njh_open::NakReason;
 use njh_presence::SpoolFaults;
 use njh_record::Kind;
 use njh_request::{EndMoment, RequestRefusal, Terms};
+use njh_tcp::Hosts;
 use std::fmt;
 use std::net::{IpAddr, SocketAddr};
 
@@ -49,6 +52,18 @@ pub enum LogEvent {
     AcceptFailed,
     /// So many connections were closed as they came, for this reason, since it was told last.
     TurnedAway(Rebuff, u64),
+    /// An OPEN of this node came, whose link is up or was not given up yet.
+    SecondOpen(Name),
+    /// An OPEN of this node came while its line is stopped.
+    OpenWhileStopped(Name),
+    /// An OPEN came with other names than its line has: who sent it, and to whom.
+    OtherNames(Hosts),
+    /// From so many connections no OPEN came, since it was told last.
+    NoOpen(u64),
+    /// The peer that was dialled answered the OPEN with NAK, for this reason.
+    PeerRefused(NakReason),
+    /// The peer that was dialled answered the OPEN with no control record, or not in time.
+    NoNje,
     /// A sign-on was refused, for this reason: it doesn't fit, or none came where one was due.
     SignOnRefused(Refusal),
     /// So many from this address were refused so far, and the last of them for this reason.
@@ -115,10 +130,12 @@ pub enum ConnectionFailure {
     /// A read or a write failed: the connection was reset, or more was to be sent than had room to
     /// wait.
     Broken,
-    /// The peer didn't take its bytes within a second.
+    /// The peer didn't take its bytes within a second, or within half a minute over TCP/IP.
     Stalled,
     /// Another connection took its place.
     Replaced,
+    /// What came on it, or a block that the line refused, can't stand on a line over TCP/IP.
+    Unfit(LinkFault),
 }
 
 /// Why a connection was closed as it came.
@@ -188,6 +205,13 @@ impl fmt::Display for LogEvent {
             LogEvent::TurnedAway(rebuff, count) => {
                 write!(f, "{count} connections were closed: {rebuff}")
             }
+            LogEvent::SecondOpen(node) => write!(f, "a second OPEN of {node}"),
+            LogEvent::OpenWhileStopped(node) => write!(f, "an OPEN of {node} while stopped"),
+            LogEvent::OtherNames(hosts) => write_other_names(f, hosts),
+            LogEvent::NoOpen(1) => f.write_str("no OPEN"),
+            LogEvent::NoOpen(count) => write!(f, "no OPEN on {count} connections"),
+            LogEvent::PeerRefused(reason) => write!(f, "the peer answered {reason}"),
+            LogEvent::NoNje => f.write_str("the peer doesn't speak NJE"),
             LogEvent::SignOnRefused(refusal) => {
                 write!(f, "sign-on refused: {}", RefusalText(*refusal))
             }
@@ -259,11 +283,12 @@ impl fmt::Display for LogEvent {
 
 impl fmt::Display for ConnectionFailure {
     fn fmt<W: fmt::Write>(&self, f: &mut fmt::Formatter<W>) -> fmt::Result {
-        f.write_str(match self {
-            ConnectionFailure::Broken => "a read or a write failed",
-            ConnectionFailure::Stalled => "the peer did not take its bytes within a second",
-            ConnectionFailure::Replaced => "replaced by another connection",
-        })
+        match self {
+            ConnectionFailure::Broken => f.write_str("a read or a write failed"),
+            ConnectionFailure::Stalled => f.write_str("the peer did not take its bytes in time"),
+            ConnectionFailure::Replaced => f.write_str("replaced by another connection"),
+            ConnectionFailure::Unfit(fault) => write!(f, "{fault}"),
+        }
     }
 }
 
@@ -361,6 +386,14 @@ pub(crate) fn write_user<W: fmt::Write>(f: &mut fmt::Formatter<W>, user: &[u8]) 
             write_field(f, user)
         }
     }
+}
+
+/// Writes that an OPEN with these names was refused.
+fn write_other_names<W: fmt::Write>(f: &mut fmt::Formatter<W>, hosts: &Hosts) -> fmt::Result {
+    f.write_str("refused: an OPEN of ")?;
+    write_field(f, &hosts.from)?;
+    f.write_str(" for ")?;
+    write_field(f, &hosts.to)
 }
 
 /// Writes the characters of a field, up to its first blank.

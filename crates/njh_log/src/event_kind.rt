@@ -21,7 +21,7 @@ pub enum EventKind {
     Untaken,
     /// A sign-on was refused.
     Refusals,
-    /// Connections were closed as they came.
+    /// Connections were closed as they came, or over TCP/IP by what their OPEN said.
     Strangers,
     /// A connection is without a session.
     Waits,
@@ -132,8 +132,14 @@ pub(crate) fn kind_of(event: &LogEvent) -> EventKind
         LogEvent::OpenToAll(_) => EventKind::Ports,
         LogEvent::Dials(_) => EventKind::Ports,
         LogEvent::DialFailed(_) => EventKind::Dials,
+        LogEvent::PeerRefused(_) => EventKind::Dials,
+        LogEvent::NoNje => EventKind::Dials,
         LogEvent::AcceptFailed => EventKind::Untaken,
         LogEvent::TurnedAway(_, _) => EventKind::Strangers,
+        LogEvent::SecondOpen(_) => EventKind::Strangers,
+        LogEvent::OpenWhileStopped(_) => EventKind::Strangers,
+        LogEvent::OtherNames(_) => EventKind::Strangers,
+        LogEvent::NoOpen(_) => EventKind::Strangers,
         LogEvent::SignOnRefused(_) => EventKind::Refusals,
         LogEvent::SignOnsRefused(_, _, _) => EventKind::Refusals,
         LogEvent::NoSession(_) => EventKind::Waits,
