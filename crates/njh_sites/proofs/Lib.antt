@@ -1,2 +1,3 @@
+mod ControlLaws
 mod EndpointLaws
 pub mod OpenedLaws

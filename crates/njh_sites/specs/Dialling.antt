@@ -1,10 +1,11 @@
 -- When a line is dialled, and when a dial is given up.
-use Rattle.std.specs.Prelude.{ℕ, ◌+◌, ◌*◌, ◌≤◌, Bool, true, nat_lt, min, if◌then◌else◌, Option, Some, None}
+use Rattle.std.specs.Prelude.{ℕ, ◌+◌, ◌*◌, ◌≤◌, Bool, true, nat_lt, min, if◌then◌else◌, Option, Some, None, ⊤}
+use Rattle.njh_open.specs.Waits.{late_at}
 use Rattle.njh_sites.specs.declared.dial.Dial.{Dial}
 use Rattle.njh_sites.specs.declared.dial.DialState.{DialState}
 use Rattle.njh_sites.specs.declared.site.Site.{Site}
 use Rattle.njh_sites.specs.declared.site.Site.TheVariants.{Listens, Dials}
-use Rattle.njh_sites.specs.declared.dial.DialState.TheVariants.{Resting, Dialling, Connected}
+use Rattle.njh_sites.specs.declared.dial.DialState.TheVariants.{Resting, Dialling, Asking, Connected}
 
 -- The next dial comes a second after a connection ended, or after a dial failed, if the one before didn't fail; and ten
 -- seconds after each that fails behind another; but no sooner than the pause for connections without a session asks.
@@ -31,6 +32,7 @@ given_up_at now = min (now + 10000) 18446744073709551615
 abbrev pub state_resumed : {C : Type 0} → DialState C → (now : ℕ) → DialState C
 state_resumed (Resting moment) now = Resting now
 state_resumed (Dialling connection moment) now = Dialling connection moment
+state_resumed (Asking connection caller) now = Asking connection caller
 state_resumed Connected now = Connected
 
 -- a dial failed: the next comes after the pause
@@ -48,23 +50,40 @@ lost had_session dial now = record dial {
 abbrev pub resumed : {C : Type 0} → Dial C → (now : ℕ) → Dial C
 resumed dial now = record dial { state = state_resumed dial.state now }
 
--- when something is to be done that nobody's answer brings: the next dial, or giving one up
+-- when something is to be done that nobody's answer brings: the next dial, or giving up one or an answer to an OPEN
 abbrev pub dial_moment : {C : Type 0} → DialState C → ℕ
 dial_moment (Resting moment) = moment
 dial_moment (Dialling connection moment) = moment
+dial_moment (Asking connection caller) = late_at caller
 dial_moment Connected = 18446744073709551615
 
 -- a dial is to come now
 abbrev pub IsToCome : {C : Type 0} → DialState C → (now : ℕ) → Type 0
 IsToCome (Resting moment) now = moment ≤ now
 IsToCome (Dialling connection moment) now = ⊥
+IsToCome (Asking connection caller) now = ⊥
 IsToCome Connected now = ⊥
 
 -- the connection of a dial that is under way
 abbrev pub connection_in : {C : Type 0} → DialState C → Option C
 connection_in (Resting moment) = None
 connection_in (Dialling connection moment) = Some connection
+connection_in (Asking connection caller) = Some connection
 connection_in Connected = None
+
+-- it isn't made yet
+abbrev pub IsDialling : {C : Type 0} → DialState C → Type 0
+IsDialling (Resting moment) = ⊥
+IsDialling (Dialling connection moment) = ⊤
+IsDialling (Asking connection caller) = ⊥
+IsDialling Connected = ⊥
+
+-- it was made, and its OPEN isn't answered yet
+abbrev pub IsAsking : {C : Type 0} → DialState C → Type 0
+IsAsking (Resting moment) = ⊥
+IsAsking (Dialling connection moment) = ⊥
+IsAsking (Asking connection caller) = ⊤
+IsAsking Connected = ⊥
 
 -- a connection of a site ended
 abbrev pub site_lost : {L C : Type 0} → (had_session : Bool) → Site L (Dial C) → (now : ℕ) → Site L (Dial C)

@@ -18,7 +18,8 @@ site_of l = elim l.peer [
 
 -- a line that is served, by its number
 abbrev pub endpoint_at : TableFile → NamedLine → Site ℕ SocketAddr → Option Endpoint
-endpoint_at t l site = option_map (λ line. record { line = line; site = site }) (line_named t l.name)
+endpoint_at t l site =
+    option_map (λ line. record { line = line; site = site; protocol = l.protocol }) (line_named t l.name)
 
 abbrev pub endpoint_of : TableFile → NamedLine → Option Endpoint
 endpoint_of t l = option_and_then (endpoint_at t l) (site_of l)

@@ -2,9 +2,11 @@
 
 ghost use Rattle.std.specs.Prelude.{◌≡◌, ◌↔◌, IsTrue, IsSome, true, false};
 ghost use Rattle.njh_sites.specs.Dialling.{connection_in, dial_moment, failed, given_up_at, lost, next_dial};
-ghost use Rattle.njh_sites.specs.Dialling.{pause_after, pause_behind, pause_now, resumed, IsToCome};
+ghost use Rattle.njh_sites.specs.Dialling.{pause_after, pause_behind, pause_now, resumed, IsAsking};
+ghost use Rattle.njh_sites.specs.Dialling.{IsDialling, IsToCome};
 ghost use Rattle.njh_sites.specs.declared.dial.DialState.TheVariants.{Connected, Dialling, Resting};
 
+use njh_open::Caller;
 use njh_wire::Network;
 use std::io;
 use std::net::SocketAddr;
@@ -41,6 +43,8 @@ pub enum DialState<C: Drop> {
     Resting(u64),
     /// This connection isn't made yet, and is given up at this moment.
     Dialling(C, u64),
+    /// This one was made to the peer of a line over TCP/IP, and its OPEN isn't answered yet.
+    Asking(C, Caller),
     /// The line has a connection.
     Connected,
 }
@@ -79,6 +83,7 @@ impl<C: Drop> Dial<C> {
         match &self.state {
             DialState::Resting(moment) => *moment,
             DialState::Dialling(_, moment) => *moment,
+            DialState::Asking(_, caller) => caller.deadline(),
             DialState::Connected => u64::MAX,
         }
     }
@@ -90,18 +95,33 @@ impl<C: Drop> Dial<C> {
         match &self.state {
             DialState::Resting(moment) => *moment <= now,
             DialState::Dialling(_, _) => false,
+            DialState::Asking(_, _) => false,
+            DialState::Connected => false,
+        }
+    }
+
+    /// Whether an answer to an OPEN is waited for.
+    pub fn is_asking(&self) -> bool
+        ensures { IsTrue result ↔ IsAsking self.now.state }
+    {
+        match &self.state {
+            DialState::Resting(_) => false,
+            DialState::Dialling(_, _) => false,
+            DialState::Asking(_, _) => true,
             DialState::Connected => false,
         }
     }
 
     /// What the network says of the connection that isn't made yet, if there is one.
     pub fn ask<N: Network<Connection = C>>(&mut self, network: &mut N) -> Option<io::Result<bool>>
-        ensures asked { IsSome result ↔ IsSome (connection_in self.old.state) }
+        ensures asked { IsSome result ↔ IsDialling self.old.state }
+        ensures under_way { IsSome result → IsSome (connection_in self.old.state) }
         ensures address { self.new.address ≡ self.old.address }
     {
         match &mut self.state {
             DialState::Resting(_) => None,
             DialState::Dialling(connection, _) => Some(network.is_connected(connection)),
+            DialState::Asking(_, _) => None,
             DialState::Connected => None,
         }
     }
@@ -132,6 +152,7 @@ impl<C: Drop> Dial<C> {
         match state {
             DialState::Resting(_) => None,
             DialState::Dialling(connection, _) => Some(connection),
+            DialState::Asking(connection, _) => Some(connection),
             DialState::Connected => None,
         }
     }
@@ -159,6 +180,7 @@ impl<C: Drop> Dial<C> {
         match &mut self.state {
             DialState::Resting(moment) => *moment = now,
             DialState::Dialling(_, _) => {}
+            DialState::Asking(_, _) => {}
             DialState::Connected => {}
         }
     }

@@ -6,7 +6,7 @@ ghost use Rattle.njh_table.specs.TableFile.{HasLine};
 ghost use Rattle.njh_sites.specs.Endpoints.{endpoint_of, endpoints_in, endpoints_of, site_of};
 
 use crate::site::Site;
-use njh_table::{LineId, NamedCustomer, NamedLine, Tables};
+use njh_table::{LineId, NamedCustomer, NamedLine, Protocol, Tables};
 use std::alloc::{AllocError, Global};
 use std::net::SocketAddr;
 
@@ -17,6 +17,8 @@ pub struct Endpoint {
     pub line: LineId,
     /// The port on which the hub listens for its peer, or the peer's address, which the hub dials.
     pub site: Site<u16, SocketAddr>,
+    /// How its bytes are written on its connections.
+    pub protocol: Protocol,
 }
 
 /// The lines of the tables that have a port or a peer, in their order. Out of memory is the only
@@ -73,7 +75,11 @@ fn endpoint_of(tables: &Tables, line: &NamedLine) -> Option<Endpoint>
 {
     let site = site_of(line)?;
     let owner = tables.line_owner(line.name())?;
-    Some(Endpoint { line: owner, site })
+    Some(Endpoint {
+        line: owner,
+        site,
+        protocol: line.protocol(),
+    })
 }
 
 /// Where a line listens, or whom it dials, if it is served.

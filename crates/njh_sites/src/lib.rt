@@ -3,6 +3,9 @@
 #![tactic(auto)]
 
 mod admission;
+mod asking;
+mod calling;
+mod controls;
 mod dial;
 mod door;
 mod endpoints;
@@ -12,6 +15,7 @@ mod port_refusal;
 mod site;
 
 pub use admission::{Admission, DialAnswer, answer_of, keeps_line, kept_until, listens_again};
+pub use asking::{Asking, Heard};
 pub use dial::{Dial, DialState};
 pub use door::{Door, begin_event, try_again};
 pub use endpoints::{Endpoint, endpoints_of};
