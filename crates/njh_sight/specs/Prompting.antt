@@ -2,12 +2,19 @@
 use Rattle.std.specs.Prelude.{ℕ, ◌+◌, ◌-◌, Bool, true, false, ◌&&◌, ◌||◌, not, ◌==◌, nat_lt, nat_le, min, if◌then◌else◌}
 use Rattle.std.specs.Prelude.{◌≡◌, ◌↔◌, Option, Some, None, List, IsTrue, ◌⊎◌}
 use Rattle.njh_table.specs.declared.LineId.{LineId}
+use Rattle.njh_table.specs.declared.Protocol.{Protocol}
+use Rattle.njh_table.specs.declared.Protocol.TheVariants.{Bisync, Tcp}
 use Rattle.njh_line.specs.declared.Phase.TheVariants.{Up}
 use Rattle.njh_hub.specs.declared.session_view.SessionView.{SessionView}
 use Rattle.njh_hub.specs.Resting.{HasNext}
 use Rattle.njh_hub.specs.WholeHub.{Part}
 use Rattle.njh_sight.specs.declared.traffic.Sight.{Sight}
 use Rattle.njh_sight.specs.declared.traffic.Traffic.{Traffic}
+
+-- whether the peer of a line may speak unasked
+abbrev pub speaks_unasked : Protocol → Bool
+speaks_unasked Bisync = false
+speaks_unasked Tcp = true
 
 -- a line was seen with this session: whether it was up, and the counts of its blocks
 pub record HasSeen (session : SessionView) (seen : Sight) : Type 0 where
@@ -62,8 +69,16 @@ is_recent None now = false
 is_recent (Some moment) now = nat_lt (now - moment) 2000
 
 -- and its wire is silent for 20 milliseconds
+abbrev pub is_silent : Traffic → ℕ → Bool
+is_silent t now = is_recent t.text now && nat_le 20 (now - t.seen.begun)
+
+-- and its peer can't speak unasked, as one over TCP/IP does
 abbrev pub is_soon : Traffic → ℕ → Bool
-is_soon t now = is_recent t.text now && nat_le 20 (now - t.seen.begun)
+is_soon t now = not t.seen.unasked && is_silent t now
+
+-- a line rests, and its peer can't speak unasked
+abbrev pub waits_for_peer : Sight → Bool
+waits_for_peer seen = seen.rests && not seen.unasked
 
 -- A line that rests is prompted: that is so, or the hub has a block to send on it (`HasNext`: by its own customer's
 -- part alone) and the line doesn't owe for too many. Else this looks at nothing but what was noted of the line itself,
@@ -74,4 +89,4 @@ IsPrompted t parts id now = IsTrue (is_soon t now) ⊎ (IsTrue (may_prompt t now
 -- when it is to be visited because texts were on it, if that is to come
 abbrev pub soon : Traffic → ℕ → ℕ
 soon t now = let moment = min (t.seen.begun + 20) 18446744073709551615 in
-    if t.seen.rests && nat_lt now moment && is_recent t.text moment then moment else 18446744073709551615
+    if waits_for_peer t.seen && nat_lt now moment && is_recent t.text moment then moment else 18446744073709551615

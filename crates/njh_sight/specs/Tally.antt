@@ -1,7 +1,7 @@
 -- What is counted of a line's files and commands since the service began: one for each thing that was told of it, and
 -- the requests that were refused.
-use Rattle.std.specs.Prelude.{ℕ, zero, suc, ◌+◌, ◌-◌, ◌*◌, Bool, true, false, ◌&&◌, ◌||◌, ◌==◌, nat_lt, min, cond}
-use Rattle.std.specs.Prelude.{if◌then◌else◌, List, Option, Some, None, slice_get, slice_index_or}
+use Rattle.std.specs.Prelude.{ℕ, zero, suc, ◌+◌, ◌-◌, ◌*◌, Bool, true, false, ◌&&◌, ◌||◌, ◌==◌, nat_lt, min}
+use Rattle.std.specs.Prelude.{if◌then◌else◌, List, Option, Some, None, slice_get}
 use Rattle.njh_block.specs.Blocks.{stream_of}
 use Rattle.njh_log.specs.declared.entry.LogEvent.{LogEvent}
 use Rattle.njh_log.specs.declared.entry.LogEvent.TheVariants as events

@@ -12,7 +12,7 @@ use njh_wire::LastBytes;
 use std::net::IpAddr;
 
 /// Whether a line in this phase is in a session.
-pub(crate) fn is_session(phase: Phase) -> bool
+pub fn is_session(phase: Phase) -> bool
     ensures { result ≡ is_session phase }
 {
     match phase {

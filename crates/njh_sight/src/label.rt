@@ -12,6 +12,7 @@ use arrayvec::ArrayString;
 use njh_ebcdic::Name;
 use njh_hub::SessionView;
 use njh_log::DownCause;
+use njh_open::NakReason;
 
 /// How many bytes the name of a line has at most.
 const NAME: usize = 8;
@@ -25,6 +26,8 @@ pub struct LineNames<'a> {
     pub line: &'a str,
     /// The node at its other end.
     pub node: Name,
+    /// What its customer calls the hub.
+    pub hub: Name,
     /// How many streams of each kind it has.
     pub streams: u8,
 }
@@ -42,6 +45,8 @@ pub struct Label {
     pub connected: bool,
     /// The node at its other end.
     pub node: Name,
+    /// What its customer calls the hub.
+    pub hub: Name,
     /// How many streams of each kind it has.
     pub streams: u8,
     /// Whether its session was up.
@@ -73,17 +78,23 @@ pub struct Label {
     pub last_end: Option<DownCause>,
     /// From when on it may be told that its connection is without a session.
     pub awaits_again: u64,
+    /// What the peer answered to the OPEN of its last dial, if it was NAK.
+    pub nak: Option<NakReason>,
 }
 
 impl Label {
     /// A line of these names, of which nothing was told.
-    pub fn of(names: &LineNames<'_>) -> Label {
+    pub fn of(names: &LineNames<'_>) -> Label
+        ensures node { result.node ≡ names.now.node }
+        ensures hub { result.hub ≡ names.now.hub }
+    {
         let mut line = ArrayString::new();
         let _whole = line.try_push_str(names.line).is_ok();
         Label {
             customer: names.customer,
             line,
             node: names.node,
+            hub: names.hub,
             streams: names.streams,
             up: false,
             news: News::none(),
@@ -98,6 +109,7 @@ impl Label {
             had_session: false,
             last_end: None,
             awaits_again: 0,
+            nak: None,
             again: 0,
             connected: false,
         }

@@ -20,7 +20,7 @@ mod traffic;
 pub use awaiting::{awaited_event, awaits_again, wrong_session};
 pub use busy::is_free;
 pub use customers::{CUSTOMERS, Came, Customers, Row};
-pub use ending::{is_up, refusal_event, refusals_event, session_end, tries_end};
+pub use ending::{is_session, is_up, refusal_event, refusals_event, session_end, tries_end};
 pub use files::{arrival, event_of_gone, loss_on, summary_of};
 pub use label::{Label, LineNames};
 pub use news::{News, Untold};

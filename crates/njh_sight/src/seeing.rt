@@ -4,12 +4,12 @@ ghost use Rattle.std.specs.Prelude.{◌≡◌, ◌<◌, ◌↔◌, [], length, I
 ghost use Rattle.njh_hub.specs.Resting.{IsResting};
 ghost use Rattle.njh_hub.specs.Views.{hub_line, line_view};
 ghost use Rattle.njh_hub.specs.WholeHub.{HasLine};
-ghost use Rattle.njh_sight.specs.Prompting.{HasSeen};
+ghost use Rattle.njh_sight.specs.Prompting.{speaks_unasked, HasSeen};
 
 use crate::traffic::Sight;
 use njh_hub::{Hub, SessionView};
 use njh_line::Phase;
-use njh_table::{LineId, Role};
+use njh_table::{LineId, Protocol, Role};
 use njh_wire::{Connection, LineWire};
 
 /// What is shown of a line that the hub doesn't have.
@@ -42,6 +42,7 @@ pub fn sight_of<C: Connection + Drop>(id: LineId, hub: &Hub, wire: &LineWire<C>)
     ensures waits { IsTrue result.waits ↔ (0 < length wire.now.waiting) }
     ensures free { IsTrue result.rests → wire.now.waiting ≡ [] }
     ensures begun { result.begun ≡ wire.now.begun }
+    ensures unasked { result.unasked ≡ speaks_unasked wire.now.protocol }
 {
     let session = session_of(hub, id);
     let waits = wire.waits_to_send();
@@ -52,5 +53,17 @@ pub fn sight_of<C: Connection + Drop>(id: LineId, hub: &Hub, wire: &LineWire<C>)
         rests: hub.is_resting(id) && wire.is_connected() && !waits,
         waits,
         begun: wire.begun(),
+        unasked: speaks_unasked(wire.protocol()),
+    }
+}
+
+/// Whether the peer of a line may speak unasked, by how its bytes are written: then it waits for no
+/// block of the hub's to answer.
+fn speaks_unasked(protocol: Protocol) -> bool
+    ensures { result ≡ speaks_unasked protocol }
+{
+    match protocol {
+        Protocol::Bisync => false,
+        Protocol::Tcp => true,
     }
 }

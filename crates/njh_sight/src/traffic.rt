@@ -3,7 +3,7 @@
 ghost use Rattle.std.specs.Prelude.{◌≡◌, ◌-◌, ◌<◌, ◌^◌, ◌↔◌, ◌&&◌, IsTrue};
 ghost use Rattle.njh_hub.specs.Resting.{HasNext};
 ghost use Rattle.njh_sight.specs.Prompting.{IsPrompted, has_text, is_recent, is_same_bcb, is_soon, moves_others};
-ghost use Rattle.njh_sight.specs.Prompting.{held_until, may_prompt, noted, paid_after, soon};
+ghost use Rattle.njh_sight.specs.Prompting.{held_until, is_silent, may_prompt, noted, paid_after, soon, waits_for_peer};
 
 use njh_hub::Hub;
 use njh_table::LineId;
@@ -35,6 +35,8 @@ pub struct Sight {
     pub waits: bool,
     /// Since when its wire was silent, on the service's clock; `u64::MAX` before its first turn.
     pub begun: u64,
+    /// Whether its peer may speak unasked, as one over TCP/IP does.
+    pub unasked: bool,
 }
 
 /// What was noted of a line.
@@ -59,6 +61,7 @@ impl Traffic {
                 rests: false,
                 waits: false,
                 begun: u64::MAX,
+                unasked: false,
             },
             text: None,
             paid: 0,
@@ -85,9 +88,11 @@ impl Traffic {
 
     /// Whether the line, if it rests, is prompted: another line of its customer gave it something
     /// to send, and it doesn't owe for too many blocks of this kind; or texts were on it of late
-    /// and its wire is silent for a while. Nothing of another customer is in it.
+    /// and its wire is silent for a while, unless its peer may speak unasked. Nothing of another
+    /// customer is in it.
     pub fn prompts(&self, hub: &Hub, id: LineId, now: u64) -> bool
-        ensures { IsTrue result ↔ IsPrompted self.now hub.now id now }
+        ensures prompted { IsTrue result ↔ IsPrompted self.now hub.now id now }
+        ensures unasked { IsTrue self.now.seen.unasked → IsTrue result → HasNext hub.now id }
     {
         self.is_soon(now) || (self.may_prompt(now) && hub.has_next(id))
     }
@@ -120,22 +125,36 @@ impl Traffic {
     }
 
     /// When the line wants to be visited because texts were on it of late; `u64::MAX` if it
-    /// doesn't. It is then prompted, if nothing comes before.
+    /// doesn't, as if its peer may speak unasked. It is then prompted, if nothing comes before.
     pub fn soon(&self, now: u64) -> u64
         ensures soon { result ≡ soon self.now now }
         ensures later { now < 2 ^ 64 - 1 → now < result }
     {
         let moment = self.seen.begun.saturating_add(PAUSE);
-        if self.seen.rests && now < moment && self.is_recent(moment) {
+        if self.waits_for_peer() && now < moment && self.is_recent(moment) {
             moment
         } else {
             u64::MAX
         }
     }
 
+    /// Whether the line rests, and its peer can't speak unasked.
+    fn waits_for_peer(&self) -> bool
+        ensures { result ≡ waits_for_peer self.now.seen }
+    {
+        self.seen.rests && !self.seen.unasked
+    }
+
     /// Whether texts were on the line of late, and its wire is silent for a while.
     fn is_soon(&self, now: u64) -> bool
         ensures { result ≡ is_soon self.now now }
+    {
+        !self.seen.unasked && self.is_silent(now)
+    }
+
+    /// Whether it is so, whoever its peer is.
+    fn is_silent(&self, now: u64) -> bool
+        ensures { result ≡ is_silent self.now now }
     {
         self.is_recent(now) && now.saturating_sub(self.seen.begun) >= PAUSE
     }
