@@ -1,6 +1,10 @@
 -- How long the attendant waits, and what it looks at then.
 use Rattle.std.specs.Prelude.{◌≡◌, ℕ, ◌+◌, ◌-◌, ◌*◌, ◌/◌, ◌<◌, ◌≤◌, ◌⊎◌, Bool, true, false, IsTrue, nat_le, min}
 use Rattle.std.specs.Prelude.{if◌then◌else◌, List, length, get_or}
+use Rattle.njh_table.specs.declared.Protocol.{Protocol}
+use Rattle.njh_table.specs.declared.Protocol.TheVariants.{Bisync, Tcp}
+use Rattle.njh_wire.specs.ByTcp.{tcp_stall}
+use Rattle.njh_wire.specs.Leaving.{alive_at, leaves_at}
 use Rattle.njh_wire.specs.Standing.{Standing}
 use Rattle.njh_wire.specs.declared.network.Readiness.{Readiness}
 use Rattle.njh_lines.specs.declared.attention.Watch.{Watch}
@@ -92,9 +96,18 @@ IsMomentOf among watches moment = (moment ≡ 18446744073709551615)
 abbrev pub first_of : ℕ → ℕ → ℕ → ℕ
 first_of a b c = min (min a b) c
 
--- at a line on which bytes wait to go out: a tenth of a second later, and when they will have waited for a second
+-- at a line on which bytes wait to go out: a tenth of a second later, and when its wire gives up
 abbrev pub again_at : (now : ℕ) → ℕ
 again_at now = min (now + 100) 18446744073709551615
 
+-- a wire gives up when they will have waited for a second; on a line over TCP/IP when none went out for thirty
+abbrev pub patience : Protocol → ℕ
+patience Bisync = 1000
+patience Tcp = tcp_stall
+
 abbrev pub stalled_at : {C : Type 0} → Standing C → ℕ
-stalled_at wire = min (wire.since + 1000) 18446744073709551615
+stalled_at wire = min (wire.since + patience wire.protocol) 18446744073709551615
+
+-- at a wire, for what is beside its line: who leaves, and what the hub says to a peer
+abbrev pub beside_at : {C : Type 0} → Standing C → ℕ
+beside_at wire = min (alive_at wire) (leaves_at wire)

@@ -1,16 +1,19 @@
 -- When a line takes a connection, and when it is looked for one again.
-use Rattle.std.specs.Prelude.{◌≡◌, ℕ, ◌⊎◌, ◌+◌, ◌-◌, ◌<◌, [], Bool, true, false, nat_le, min, max, if◌then◌else◌}
-use Rattle.std.specs.Prelude.{IsSome, IsTrue}
+use Rattle.std.specs.Prelude.{◌≡◌, ℕ, ◌⊎◌, ◌+◌, ◌-◌, ◌<◌, ◌||◌, [], Bool, true, false, nat_le, min, max, if◌then◌else◌}
+use Rattle.std.specs.Prelude.{IsSome, IsTrue, ⊤}
 use Rattle.std.specs.Prelude.{Option, Some, None}
 use Rattle.std.specs.Net.Socket.{socket_ip}
 use Rattle.njh_anteroom.specs.Remembered.{refusals_of}
 use Rattle.njh_line.specs.declared.refusal.Refusal.{Refusal}
 use Rattle.njh_lines.specs.declared.entrance.Entrance.{Entrance}
 use Rattle.njh_hub.specs.declared.session_view.SessionView.{SessionView}
+use Rattle.njh_table.specs.declared.Protocol.{Protocol}
+use Rattle.njh_table.specs.declared.Protocol.TheVariants.{Bisync, Tcp}
+use Rattle.njh_wire.specs.ByTcp.{IsReadyByTcp}
 use Rattle.njh_wire.specs.Readings.{IsOpen}
 use Rattle.njh_wire.specs.Standing.{Standing}
 use Rattle.njh_sites.specs.Admitting.{kept_until}
-use Rattle.njh_sight.specs.Sessions.{is_up, no_session_since, refusal_event, refusals_event}
+use Rattle.njh_sight.specs.Sessions.{is_session, is_up, no_session_since, refusal_event, refusals_event}
 use Rattle.njh_sight.specs.declared.label.Label.{Label}
 use Rattle.njh_wire.specs.declared.end.ConnectionEnd.{ConnectionEnd}
 use Rattle.njh_wire.specs.declared.end.ConnectionEnd.TheVariants as ends
@@ -31,8 +34,23 @@ abbrev pub IsInSession : {C : Type 0} → (in_session : Bool) → Standing C →
 IsInSession in_session wire = IsTrue in_session × IsConnected wire
 
 -- the hub is still to hear of something on a wire: something may be there to read, or an end is to be told
+abbrev pub IsReadyOn : {C : Type 0} → Protocol → Standing C → Type 0
+IsReadyOn Bisync wire = (wire.waiting ≡ []) × (IsSome wire.parting ⊎ IsOpen wire)
+IsReadyOn Tcp wire = IsReadyByTcp wire
+
 abbrev pub IsReady : {C : Type 0} → Standing C → Type 0
-IsReady wire = (wire.waiting ≡ []) × (IsSome wire.parting ⊎ IsOpen wire)
+IsReady wire = IsReadyOn wire.protocol wire
+
+-- On a line over TCP/IP a connection ends with its session, by whatever end that is: it was in one, up or on the way
+-- there, and isn't any more.
+abbrev pub IsOverOn : Protocol → Label → SessionView → Type 0
+IsOverOn Bisync label session = ⊥
+IsOverOn Tcp label session = IsTrue (label.in_session || label.had_session) × (¬ IsTrue (is_session session.phase))
+
+-- so one whose session goes on stays
+abbrev pub StaysOn : Protocol → SessionView → Type 0
+StaysOn Bisync session = ⊤
+StaysOn Tcp session = IsTrue (is_session session.phase)
 
 -- for how long nothing came
 abbrev pub silence_of : {C : Type 0} → Standing C → ℕ
@@ -86,3 +104,4 @@ end_event is_early ends.Closed = events.Closed
 end_event is_early ends.Failed = events.Failed failures.Broken
 end_event is_early ends.Stalled = events.Failed failures.Stalled
 end_event is_early ends.Replaced = events.Failed failures.Replaced
+end_event is_early (ends.Refused fault) = events.Failed (failures.Unfit fault)

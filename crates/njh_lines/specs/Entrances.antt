@@ -12,7 +12,7 @@ use Rattle.njh_anteroom.specs.Waiting.{seated}
 use Rattle.njh_anteroom.specs.declared.entry.Entry.{Entry}
 use Rattle.njh_anteroom.specs.declared.guest.Guest.{Guest}
 use Rattle.njh_anteroom.specs.declared.remembered.Remembered.{Remembered}
-use Rattle.njh_lines.specs.TurningAway.{away_after, away_moment, nobody_away, one_more_away}
+use Rattle.njh_lines.specs.TurningAway.{away_after, away_moment, no_opens, nobody_away, one_more_away}
 use Rattle.njh_lines.specs.declared.entrance.Entrance.{Entrance}
 
 abbrev pub first_entrance : {C : Type 0} → List AddressRange → Entrance C
@@ -22,6 +22,7 @@ first_entrance from = record {
   peer = None;
   not_allowed = nobody_away;
   turned_away = nobody_away;
+  opens = no_opens;
 }
 
 -- the line is given to a peer

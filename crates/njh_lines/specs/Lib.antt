@@ -1,3 +1,4 @@
+pub mod Asking
 pub mod Attention
 pub mod Connecting
 pub mod Entrances

@@ -7,22 +7,28 @@ use Rattle.njh_sight.specs.Waking.{is_wanted, look_moment, marked, IsRowMade}
 use Rattle.njh_sight.specs.declared.customers.Row.{Row}
 use Rattle.njh_sight.specs.declared.traffic.Sight.{Sight}
 use Rattle.njh_wire.specs.Standing.{Standing, due}
-use Rattle.njh_lines.specs.Attention.{again_at, called, first_of, stalled_at, watch_at, IsInGroup, IsMomentOf}
+use Rattle.njh_lines.specs.Attention.{again_at, beside_at, called, first_of, stalled_at, watch_at, IsInGroup}
+use Rattle.njh_lines.specs.Attention.{IsMomentOf}
 use Rattle.njh_lines.specs.Connecting.{IsReady}
 use Rattle.njh_lines.specs.Watching.{IsToBeWoken, Noted, Watched}
 use Rattle.njh_lines.specs.declared.attention.Watch.{Watch}
 
 -- ---- a line that was looked at
 
--- When it is looked at next, by how its wire stands now: bytes wait to go out on it, something is to be read or told,
--- or it is silent; and by what is noted of the line.
+-- it is looked at no later than something is to be told of it, or done beside it
+abbrev pub told_by : {C : Type 0} → Standing C → Noted → (moment : ℕ) → ℕ
+told_by wire noted moment = first_of moment noted.tells (beside_at wire)
+
+-- When it is looked at next, by how its wire stands now: something is to be read or told, bytes wait to go out on it, or
+-- it is silent; and by what is noted of the line.
 pub record IsNextLook {C : Type 0} (wire : Standing C) (noted : Noted) (now moment : ℕ) : Type 0 where
-  pub waits : 0 < length wire.waiting → moment ≡ min (first_of (again_at now) noted.site (stalled_at wire)) noted.tells
-  pub ready : IsReady wire → moment ≡ min now noted.tells
+  pub waits : 0 < length wire.waiting → ¬ IsReady wire
+      → moment ≡ told_by wire noted (first_of (again_at now) noted.site (stalled_at wire))
+  pub ready : IsReady wire → moment ≡ told_by wire noted now
   pub rests : wire.waiting ≡ [] → ¬ IsReady wire → IsSome wire.connection
-      → moment ≡ min (first_of (due wire) noted.site (soon noted.traffic now)) noted.tells
+      → moment ≡ told_by wire noted (first_of (due wire) noted.site (soon noted.traffic now))
   pub alone : wire.waiting ≡ [] → ¬ IsReady wire → wire.connection ≡ None
-      → moment ≡ min (first_of 18446744073709551615 noted.site (soon noted.traffic now)) noted.tells
+      → moment ≡ told_by wire noted (first_of 18446744073709551615 noted.site (soon noted.traffic now))
 
 -- The line at a place rests, and is looked at again by this.
 pub record HasRested {C : Type 0} (seen : Watched) (place : ℕ) (wire : Standing C) (watch : Watch) : Type 0 where

@@ -1,8 +1,16 @@
 -- What a round does with the wires of the lines that it looks at.
-use Rattle.std.specs.Prelude.{◌≡◌, ℕ, ◌<◌, ◌≤◌, ◌⊎◌, IsTrue, List, [], length, Some, slice_get, slice_index_or}
+use Rattle.std.specs.Prelude.{◌≡◌, ℕ, ◌<◌, ◌≤◌, ◌⊎◌, IsSome, IsTrue, List, [], length, None, Some, slice_get}
+use Rattle.std.specs.Prelude.{slice_index_or}
 use Rattle.njh_request.specs.declared.request.LineState.TheVariants.{Stopped}
+use Rattle.njh_table.specs.declared.Protocol.{Protocol}
+use Rattle.njh_table.specs.declared.Protocol.TheVariants.{Bisync, Tcp}
+use Rattle.njh_wire.specs.ByTcp.{IsFlushedByTcp}
 use Rattle.njh_wire.specs.Readings.{IsFlushed}
-use Rattle.njh_wire.specs.Standing.{Standing}
+use Rattle.njh_wire.specs.Leaving.{alive_at, IsSaid, Leaves}
+use Rattle.njh_wire.specs.Standing.{Standing, after_close}
+use Rattle.njh_wire.specs.declared.connection.Saying.{Saying}
+use Rattle.njh_wire.specs.declared.connection.Saying.TheVariants.{KeepAlive, SignOff}
+use Rattle.njh_wire.specs.declared.end.Stop.{Stop}
 use Rattle.njh_lines.specs.Attention.{watch_at}
 use Rattle.njh_lines.specs.Connecting.{IsConnected}
 use Rattle.njh_hub.specs.Views.{hub_line, line_view}
@@ -33,11 +41,33 @@ pub record IsLeft {C : Type 0} (s new : Standing C) : Type 0 where
   pub waits : IsConnected new → (new.waiting ≡ s.waiting) × ((new.connection ≡ s.connection) × (new.next ≡ s.next))
   pub drops : (new.waiting ≡ s.waiting) ⊎ (new.waiting ≡ [])
 
+-- what waits on a wire is sent on, as far as it goes, by the rules of its line's protocol
+abbrev pub IsFlushedOn : {C : Type 0} → Protocol → (C → C → List ℕ → List ℕ → Type 0) → Standing C → Standing C → Type 0
+IsFlushedOn Bisync moved s new = IsFlushed moved s new
+IsFlushedOn Tcp moved s new = IsFlushedByTcp moved s new
+
+-- As a round looks at a wire, who leaves is let go on, and the peer is told that the hub is there, if nothing was sent
+-- for a minute.
+pub record IsTended {C : Type 0} (moved : C → C → List ℕ → List ℕ → Type 0) (stops : C → Stop → Type 0)
+    (said : C → C → Saying → Type 0) (now : ℕ) (s new : Standing C) : Type 0 where
+  pub middle : Standing C
+  pub nobody : s.leave.who ≡ None → middle ≡ s
+  pub leaves : IsSome s.leave.who → Leaves moved stops s middle
+  pub says : alive_at middle ≤ now → IsSaid moved said KeepAlive middle new
+  pub silent : now < alive_at middle → new ≡ middle
+
+-- The connection of a peer whose sign-on was refused is ended: over TCP/IP it is told so before.
+abbrev pub IsRefusedOn : {C : Type 0} → Protocol → (C → C → List ℕ → List ℕ → Type 0) → (C → C → Saying → Type 0) →
+    Standing C → Standing C → Type 0
+IsRefusedOn Bisync moved said s new = new ≡ after_close s
+IsRefusedOn {C} Tcp moved said s new =
+    (middle : Standing C) × (IsSaid moved said SignOff s middle × (new ≡ after_close middle))
+
 -- What waited on a wire was sent on, as far as it goes, before that is done.
 pub record IsLetOut {C : Type 0} (moved : C → C → List ℕ → List ℕ → Type 0) (s new : Standing C) : Type 0 where
   pub middle : Standing C
   pub idle : s.waiting ≡ [] → middle ≡ s
-  pub flushed : 0 < length s.waiting → IsFlushed moved s middle
+  pub flushed : 0 < length s.waiting → IsFlushedOn s.protocol moved s middle
   pub left : IsLeft middle new
 
 -- what is shown of a line's session

@@ -1,6 +1,6 @@
 //! How a line gets a connection and loses it, and what is told of that.
 
-ghost use Rattle.std.specs.Prelude.{◌≡◌, ℕ, ◌<◌, ◌≤◌, ◌⊎◌, ◌↔◌, max, min, nat_lt, None, Some, false, IfSome, IsTrue};
+ghost use Rattle.std.specs.Prelude.{◌≡◌, ◌<◌, ◌≤◌, ◌⊎◌, ◌↔◌, max, min, nat_lt, None, Some, false, IfSome, IsTrue};
 ghost use Rattle.njh_wire.specs.Standing.{after_admission, after_displacement};
 ghost use Rattle.njh_wire.specs.Tally.{tally};
 ghost use Rattle.njh_anteroom.specs.declared.guest.Guest.{Guest};
@@ -10,7 +10,7 @@ ghost use Rattle.njh_lines.specs.Connecting.{end_event, place_of, told_connected
 ghost use Rattle.njh_lines.specs.Connecting.{told_refusal};
 ghost use Rattle.njh_log.specs.Limiting.{IsTold};
 ghost use Rattle.njh_sites.specs.Admitting.{kept_until, listens_again};
-ghost use Rattle.njh_sites.specs.Dialling.{connection_in, dial_moment, failed, given_up_at, next_dial, IsToCome};
+ghost use Rattle.njh_sites.specs.declared.asking.Asking.{Asking};
 
 use crate::entrance::Entrance;
 use crate::surroundings::Surroundings;
@@ -19,7 +19,7 @@ use njh_anteroom::{Entry, Guest};
 use njh_line::Refusal;
 use njh_log::{ConnectionFailure, LogEvent, Rebuff};
 use njh_sight::{Label, refusal_event, refusals_event};
-use njh_sites::{Admission, Dial, DialAnswer, answer_of, keeps_line, kept_until, listens_again};
+use njh_sites::{Admission, Asking, keeps_line, kept_until, listens_again};
 use njh_wire::{Connection, ConnectionEnd, LineWire, Network};
 use std::io::Write;
 use std::net::SocketAddr;
@@ -35,7 +35,7 @@ const AT_ONCE: usize = 16;
 pub(crate) fn let_in<N: Network + Drop, L: Write + Drop>(
     surroundings: &mut Surroundings<N, L>,
     listener: &mut N::Listener,
-    entrance: &mut Entrance<N::Connection>,
+    entrance: &mut Entrance<Asking<N::Connection>>,
     label: &mut Label,
 ) -> u64
     ensures now { surroundings.new.now ≡ surroundings.old.now }
@@ -68,7 +68,7 @@ pub(crate) fn let_in<N: Network + Drop, L: Write + Drop>(
 fn accept_some<N: Network + Drop, L: Write + Drop>(
     surroundings: &mut Surroundings<N, L>,
     listener: &mut N::Listener,
-    entrance: &mut Entrance<N::Connection>,
+    entrance: &mut Entrance<Asking<N::Connection>>,
     label: &mut Label,
 ) -> Admission
     ensures now { surroundings.new.now ≡ surroundings.old.now }
@@ -94,7 +94,7 @@ fn accept_some<N: Network + Drop, L: Write + Drop>(
 fn accept<N: Network + Drop, L: Write + Drop>(
     surroundings: &mut Surroundings<N, L>,
     listener: &mut N::Listener,
-    entrance: &mut Entrance<N::Connection>,
+    entrance: &mut Entrance<Asking<N::Connection>>,
     label: &mut Label,
 ) -> Admission
     ensures now { surroundings.new.now ≡ surroundings.old.now }
@@ -109,7 +109,8 @@ fn accept<N: Network + Drop, L: Write + Drop>(
 {
     match surroundings.network.accept(listener) {
         Ok(Some((connection, address))) => {
-            receive(surroundings, entrance, connection, address);
+            let asking = Asking::new(connection, surroundings.now);
+            receive(surroundings, entrance, asking, address);
             Admission::Taken
         }
         Ok(None) => Admission::NobodyWaits,
@@ -127,8 +128,8 @@ fn accept<N: Network + Drop, L: Write + Drop>(
 /// anything of it is read, and counted.
 fn receive<N: Network + Drop, L: Write + Drop>(
     surroundings: &mut Surroundings<N, L>,
-    entrance: &mut Entrance<N::Connection>,
-    connection: N::Connection,
+    entrance: &mut Entrance<Asking<N::Connection>>,
+    connection: Asking<N::Connection>,
     address: SocketAddr,
 )
     ensures now { surroundings.new.now ≡ surroundings.old.now }
@@ -174,7 +175,7 @@ fn tell_away<N: Network + Drop, L: Write + Drop>(
 #[tactic(auto, using(crate::proofs::AllowedLaws::left_allowed))]
 pub(crate) fn admit<N: Network + Drop, L: Write + Drop>(
     surroundings: &mut Surroundings<N, L>,
-    entrance: &mut Entrance<N::Connection>,
+    entrance: &mut Entrance<Asking<N::Connection>>,
     label: &mut Label,
     wire: &mut LineWire<N::Connection>,
 ) -> u64
@@ -196,9 +197,9 @@ pub(crate) fn admit<N: Network + Drop, L: Write + Drop>(
     ensures waiting { ¬ IsBarred label.old surroundings.old.now → ¬ KeepsLine wire.old label.old surroundings.old.now →
         entrance.new.anteroom.waiting ≡ left_after surroundings.old.now entrance.old }
     ensures given { ¬ IsBarred label.old surroundings.old.now → ¬ KeepsLine wire.old label.old surroundings.old.now →
-        (guest : Guest N.Connection) → next_guest surroundings.old.now entrance.old ≡ Some guest →
-        N.Connection.place_of guest.connection ≡ wire.old.place →
-        (wire.new ≡ record (after_admission guest.connection (after_displacement wire.old)) { end = None })
+        (guest : Guest (Asking N.Connection)) → next_guest surroundings.old.now entrance.old ≡ Some guest →
+        N.Connection.place_of guest.connection.connection ≡ wire.old.place →
+        (wire.new ≡ record (after_admission guest.connection.connection (after_displacement wire.old)) { end = None })
         × (entrance.new.peer ≡ Some guest.address) }
 {
     let now = surroundings.now;
@@ -212,7 +213,7 @@ pub(crate) fn admit<N: Network + Drop, L: Write + Drop>(
     match surroundings.next_of(&mut entrance.anteroom) {
         Some(guest) => {
             let address = guest.address;
-            if connect(surroundings, entrance, label, wire, guest) {
+            if connect(surroundings, entrance, label, wire, without_open(guest)) {
                 tell_connected(surroundings, label, LogEvent::ConnectedFrom(address));
             }
             kept_until(label.up, label.no_session_since).max(entrance.anteroom.next_at())
@@ -221,11 +222,29 @@ pub(crate) fn admit<N: Network + Drop, L: Write + Drop>(
     }
 }
 
+/// Who waited, without what came of an OPEN.
+pub(crate) fn without_open<C: Drop>(guest: Guest<Asking<C>>) -> Guest<C>
+    ensures connection { result.connection ≡ guest.connection.connection }
+    ensures address { result.address ≡ guest.address }
+{
+    let Guest {
+        connection,
+        address,
+        since,
+    } = guest;
+    let Asking { connection, .. } = connection;
+    Guest {
+        connection,
+        address,
+        since,
+    }
+}
+
 /// Gives a line a connection of its own, in place of one that it has, and answers whether it did.
 /// One of another line is dropped.
-fn connect<N: Network + Drop, L: Write + Drop>(
+pub(crate) fn connect<N: Network + Drop, L: Write + Drop>(
     surroundings: &mut Surroundings<N, L>,
-    entrance: &mut Entrance<N::Connection>,
+    entrance: &mut Entrance<Asking<N::Connection>>,
     label: &mut Label,
     wire: &mut LineWire<N::Connection>,
     guest: Guest<N::Connection>,
@@ -238,6 +257,7 @@ fn connect<N: Network + Drop, L: Write + Drop>(
     ensures own { IsTrue result ↔ (N.Connection.place_of guest.connection ≡ wire.old.place) }
     ensures taken { IsTrue result →
         wire.new ≡ record (after_admission guest.connection (after_displacement wire.old)) { end = None } }
+    ensures refused { ¬ IsTrue result → (wire.new ≡ wire.old) × ((label.new ≡ label.old) × (entrance.new ≡ entrance.old)) }
     ensures came { IsTrue result → (label.new.no_session_since ≡ surroundings.old.now)
         × ((label.new.in_session ≡ false) × (label.new.had_session ≡ false)) }
     ensures given { IsTrue result → entrance.new.peer ≡ Some guest.address }
@@ -267,75 +287,8 @@ fn connect<N: Network + Drop, L: Write + Drop>(
     true
 }
 
-/// Dials, or sees whether a dial was answered.
-pub(crate) fn drive<N: Network + Drop, L: Write + Drop>(
-    surroundings: &mut Surroundings<N, L>,
-    dial: &mut Dial<N::Connection>,
-    entrance: &mut Entrance<N::Connection>,
-    label: &mut Label,
-    wire: &mut LineWire<N::Connection>,
-)
-    ensures counts { wire.old.failures ≤ wire.new.failures }
-    ensures tally { tally wire.new ≡ tally wire.old }
-    ensures clock { wire.new.clock ≡ wire.old.clock }
-    ensures now { surroundings.new.now ≡ surroundings.old.now }
-    ensures customers { surroundings.new.customers ≡ surroundings.old.customers }
-    ensures address { dial.new.address ≡ dial.old.address }
-    ensures from { entrance.new.from ≡ entrance.old.from }
-    ensures begun { IsToCome dial.old.state surroundings.old.now →
-        (dial_moment dial.new.state ≡ given_up_at surroundings.old.now)
-        ⊎ (dial_moment dial.new.state ≡ next_dial dial.old.has_failed dial.old.pause surroundings.old.now) }
-    ensures idle { ¬ IsToCome dial.old.state surroundings.old.now → connection_in dial.old.state ≡ None →
-        wire.new ≡ wire.old }
-{
-    if dial.is_to_come(surroundings.now) {
-        match surroundings.network.dial(dial.address(), wire.place()) {
-            Ok(connection) => dial.begin(connection, surroundings.now),
-            Err(_) => give_up(surroundings, dial, label),
-        }
-        return;
-    }
-    let until = dial.moment();
-    let address = dial.address();
-    let Some(made) = dial.ask(&mut surroundings.network) else {
-        return;
-    };
-    match answer_of(made, until, surroundings.now) {
-        DialAnswer::Made => {
-            if let Some(connection) = dial.take() {
-                let guest = Guest {
-                    connection,
-                    address,
-                    since: surroundings.now,
-                };
-                if connect(surroundings, entrance, label, wire, guest) {
-                    tell_connected(surroundings, label, LogEvent::ConnectedTo(address));
-                }
-            }
-        }
-        DialAnswer::Waits => {}
-        DialAnswer::Failed => give_up(surroundings, dial, label),
-    }
-}
-
-/// A dial failed.
-fn give_up<N: Network + Drop, L: Write + Drop>(
-    surroundings: &mut Surroundings<N, L>,
-    dial: &mut Dial<N::Connection>,
-    label: &Label,
-)
-    ensures failed { dial.new ≡ failed dial.old surroundings.old.now }
-    ensures now { surroundings.new.now ≡ surroundings.old.now }
-    ensures customers { surroundings.new.customers ≡ surroundings.old.customers }
-    ensures told { IsTold L.contents (place_of label.now) (LogEvent.DialFailed dial.old.address) surroundings.old.now
-        surroundings.old.log surroundings.new.log }
-{
-    dial.fail(surroundings.now);
-    surroundings.tell(label, LogEvent::DialFailed(dial.address()));
-}
-
 /// Tells of a new connection, unless one was told in the second before.
-fn tell_connected<N: Network + Drop, L: Write + Drop>(
+pub(crate) fn tell_connected<N: Network + Drop, L: Write + Drop>(
     surroundings: &mut Surroundings<N, L>,
     label: &mut Label,
     event: LogEvent,
@@ -407,5 +360,6 @@ fn end_event(end: ConnectionEnd, is_early: bool) -> LogEvent
         ConnectionEnd::Failed => LogEvent::Failed(ConnectionFailure::Broken),
         ConnectionEnd::Stalled => LogEvent::Failed(ConnectionFailure::Stalled),
         ConnectionEnd::Replaced => LogEvent::Failed(ConnectionFailure::Replaced),
+        ConnectionEnd::Refused(fault) => LogEvent::Failed(ConnectionFailure::Unfit(fault)),
     }
 }

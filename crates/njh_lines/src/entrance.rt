@@ -3,6 +3,7 @@
 ghost use Rattle.std.specs.Prelude.{◌≡◌, IfOk};
 ghost use Rattle.njh_lines.specs.Entrances.{away_at, first_entrance, given_to, in_session, parted};
 
+use crate::opens::Opens;
 use crate::turned_away::TurnedAway;
 use njh_anteroom::Anteroom;
 use njh_table::AddressRanges;
@@ -22,6 +23,8 @@ pub struct Entrance<C: Drop> {
     pub not_allowed: TurnedAway,
     /// Connections to it that were closed as they came, since so many waited already.
     pub turned_away: TurnedAway,
+    /// Who asked for it and wasn't given it, over TCP/IP.
+    pub opens: Opens,
 }
 
 impl<C: Drop> Entrance<C> {
@@ -35,6 +38,7 @@ impl<C: Drop> Entrance<C> {
             peer: None,
             not_allowed: TurnedAway::none(),
             turned_away: TurnedAway::none(),
+            opens: Opens::none(),
         })
     }
 

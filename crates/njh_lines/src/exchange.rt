@@ -58,8 +58,6 @@ pub struct Exchange<N: Network + Drop, L: Write + Drop> {
     queues: Vec<Queue>,
     /// When it is looked next which do.
     queues_again: u64,
-    /// Where the anterooms of lines take their memory, as these are added.
-    alloc: Global,
 }
 
 impl<N: Network + Drop, L: Write + Drop> Model for Exchange<N, L> {
@@ -101,6 +99,7 @@ impl<N: Network + Drop, L: Write + Drop> Exchange<N, L> {
                 commands: 0,
                 guests: 0,
                 most_guests,
+                alloc,
             },
             posts: Vec::new(alloc),
             ready: Vec::new(alloc),
@@ -110,7 +109,6 @@ impl<N: Network + Drop, L: Write + Drop> Exchange<N, L> {
             arrivals: Arrivals::empty(alloc),
             queues: Vec::new(alloc),
             queues_again: 0,
-            alloc,
         }
     }
 
@@ -304,7 +302,7 @@ impl<N: Network + Drop, L: Write + Drop> Exchange<N, L> {
         ensures err { OnErr result (self.new ≡ self.old) }
     {
         let label = Label::of(names);
-        let entrance = Entrance::new(self.alloc, from)?;
+        let entrance = Entrance::new(self.surroundings.alloc, from)?;
         self.posts.reserve(1)?;
         self.ready.reserve(1)?;
         self.watches.reserve(1)?;

@@ -16,7 +16,7 @@ use njh_hub::SessionView;
 use njh_log::{DownCause, LogEvent};
 use njh_request::LineState;
 use njh_sight::{Label, Stands, Steps, Streams, Traffic};
-use njh_sites::{Dial, Door, Site, kept_until};
+use njh_sites::{Asking, Dial, Door, Site, kept_until};
 use njh_table::LineId;
 use std::net::SocketAddr;
 
@@ -36,7 +36,7 @@ pub struct Post<Li: Drop, C: Drop> {
     /// Its door, or its dials.
     pub site: Site<Door<Li>, Dial<C>>,
     /// Who comes to it.
-    pub entrance: Entrance<C>,
+    pub entrance: Entrance<Asking<C>>,
     /// What the log calls it, and what it told of it.
     pub label: Label,
     /// What its streams were about after the last step on it, and what was counted of that.
@@ -55,7 +55,7 @@ impl<Li: Drop, C: Drop> Post<Li, C> {
         id: LineId,
         label: Label,
         site: Site<Door<Li>, SocketAddr>,
-        entrance: Entrance<C>,
+        entrance: Entrance<Asking<C>>,
     ) -> Post<Li, C>
         ensures line { result.line ≡ id }
         ensures state { result.state ≡ Started }

@@ -12,7 +12,7 @@ ghost use Rattle.njh_sight.specs.Sessions.{HasRefusedMore};
 ghost use Rattle.njh_sight.specs.Steps.{steps_after};
 ghost use Rattle.njh_sight.specs.declared.steps.Steps.{Steps};
 ghost use Rattle.njh_lines.specs.Attention.{mark_at, watch_at, IsDue};
-ghost use Rattle.njh_lines.specs.Connecting.{IsConnected};
+ghost use Rattle.njh_lines.specs.Connecting.{IsConnected, StaysOn};
 ghost use Rattle.njh_lines.specs.Resting.{HasRested, HaveEnded, IsNextLook, IsSameAt, WaitsForFirst};
 ghost use Rattle.njh_lines.specs.Watching.{HasNoted, HaveBegun, IsRoundBegun, IsToBePrompted};
 ghost use Rattle.njh_lines.specs.Watching.{Noted, ServedLine};
@@ -25,6 +25,7 @@ use crate::groups::{begin_groups, end_group};
 use crate::sessions::follow;
 use crate::visiting::{apply_session, begin};
 use crate::waking::wake;
+use crate::wires::let_out;
 use njh_hub::Hub;
 use njh_wire::{LineWire, Network, Readiness};
 use std::io::Write;
@@ -75,7 +76,7 @@ impl<N: Network + Drop, L: Write + Drop> Exchange<N, L> {
         let post = &mut self.posts[place];
         let ready = &mut self.ready[place];
         let watch = &mut self.watches[place];
-        begin(&mut self.surroundings, place, post, ready, watch, wire);
+        begin(&mut self.surroundings, post, ready, watch, wire);
         look_at_group(&mut self.groups, place, watch.is_due);
     }
 
@@ -155,7 +156,7 @@ impl<N: Network + Drop, L: Write + Drop> Exchange<N, L> {
         if !self.is_due(place) {
             return;
         }
-        wire.flush();
+        let_out(wire);
         let moment = self.apply_session(place, hub, wire);
         self.rest(place, moment);
     }
@@ -200,6 +201,7 @@ impl<N: Network + Drop, L: Write + Drop> Exchange<N, L> {
         ensures kept { (line : ServedLine) → (seen : ℕ) → slice_get self.old.lines place ≡ Some line →
             slice_get self.old.refusals place ≡ Some seen → HasLine hub.now line.id → ¬ HasGivenUp hub.now line.id →
             ¬ HasRefusedMore seen (line_view (hub_line line.id hub.now).state) →
+            StaysOn wire.old.protocol (line_view (hub_line line.id hub.now).state) →
             wire.new.connection ≡ wire.old.connection }
         ensures left { IsLeft wire.old wire.new }
         ensures quiet { (line : ServedLine) → slice_get self.old.lines place ≡ Some line → HasLine hub.now line.id →

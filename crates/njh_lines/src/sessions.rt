@@ -14,8 +14,9 @@ ghost use Rattle.njh_sight.specs.Sessions.{after_step, barred_until, had_session
 ghost use Rattle.njh_sight.specs.Sessions.{session_end, tries_end, HasRefused};
 ghost use Rattle.njh_sight.specs.Steps.{steps_after};
 ghost use Rattle.njh_lines.specs.Entrances.{parted};
-ghost use Rattle.njh_lines.specs.Wires.{IsLeft};
-ghost use Rattle.njh_lines.specs.Connecting.{moment_seen, place_of, silence_of, IsConnected, IsInSession, IsReady};
+ghost use Rattle.njh_lines.specs.Wires.{IsLeft, IsRefusedOn};
+ghost use Rattle.njh_lines.specs.Connecting.{moment_seen, place_of, silence_of, IsConnected, IsInSession, IsOverOn};
+ghost use Rattle.njh_lines.specs.Connecting.{IsReady};
 ghost use Rattle.njh_lines.specs.Connecting.{told_refusal};
 ghost use Rattle.njh_lines.specs.LineStates.{is_stopped};
 
@@ -25,13 +26,16 @@ use crate::line_state::is_stopped;
 use crate::post::Post;
 use crate::surroundings::Surroundings;
 use crate::telling::{tell_commands, tell_files};
+use crate::wires::{is_ready, refuse};
 use njh_arrivals::Arrivals;
 use njh_hub::{Hub, SessionView};
 use njh_log::DownCause;
 use njh_sight::{
-    Label, awaited_event, awaits_again, room_refusal, session_end, session_of, tries_end,
+    Label, awaited_event, awaits_again, is_session, room_refusal, session_end, session_of,
+    tries_end,
 };
-use njh_table::LineId;
+use njh_sites::Asking;
+use njh_table::{LineId, Protocol};
 use njh_wire::{Connection, ConnectionEnd, LineWire, Network};
 use std::io::Write;
 
@@ -72,6 +76,7 @@ pub(crate) fn look<N: Network + Drop, L: Write + Drop>(
         ≡ news_seen post.old.label session (Some tries) (is_stopped post.old.state) surroundings.old.now }
     ensures kept { HasLine hub.now post.old.line → ¬ HasGivenUp hub.now post.old.line →
         ¬ HasRefused post.old.label (line_view (hub_line post.old.line hub.now).state) →
+        ¬ IsOverOn wire.old.protocol post.old.label (line_view (hub_line post.old.line hub.now).state) →
         wire.new.connection ≡ wire.old.connection }
     ensures left { IsLeft wire.old wire.new }
     ensures refused { HasLine hub.now post.old.line →
@@ -81,19 +86,67 @@ pub(crate) fn look<N: Network + Drop, L: Write + Drop>(
 {
     let now = surroundings.now;
     let session = session_of(hub, post.line);
-    let gave_up = end_tries(surroundings, post.line, &post.label, hub, wire);
-    let entrance = &mut post.entrance;
-    let is_refused = end_refused(surroundings, entrance, &mut post.label, &session, wire);
-    let end = heard_end(wire, gave_up.is_some() || is_refused);
+    let Parting {
+        tries,
+        is_refused,
+        end,
+    } = part(surroundings, post, &session, hub, wire);
     let is_early = post.label.in_session && !post.label.up;
     let is_stopped = is_stopped(post.state);
-    let cause = session_end(gave_up, is_stopped, session.last_end);
+    let cause = session_end(tries, is_stopped, session.last_end);
     post.see(session, cause, now);
     tell_sessions(surroundings, &mut post.label, now);
     tell_awaited(surroundings, &mut post.label, &session, wire.is_connected());
     if let Some(end) = end {
         tell_end(surroundings, &mut post.label, end, is_early);
         post.lose(is_refused, now);
+    }
+}
+
+/// How a line's session had its connection end.
+#[derive(Drop)]
+struct Parting {
+    /// Why the session gave up, if it did.
+    tries: Option<DownCause>,
+    /// Whether a sign-on was refused.
+    is_refused: bool,
+    /// How the connection ended that the line had, once the hub has heard of it.
+    end: Option<ConnectionEnd>,
+}
+
+/// Ends a line's connection where its session has it be, and answers how.
+fn part<N: Network + Drop, L: Write + Drop>(
+    surroundings: &mut Surroundings<N, L>,
+    post: &mut Post<N::Listener, N::Connection>,
+    session: &SessionView,
+    hub: &Hub,
+    wire: &mut LineWire<N::Connection>,
+) -> Parting
+    ensures same { post.new ≡ record post.old { label = post.new.label; entrance = post.new.entrance } }
+    ensures label { post.new.label ≡ record post.old.label { barred_until = post.new.label.barred_until } }
+    ensures from { post.new.entrance.from ≡ post.old.entrance.from }
+    ensures now { surroundings.new.now ≡ surroundings.old.now }
+    ensures counts { wire.old.failures ≤ wire.new.failures }
+    ensures tally { tally wire.new ≡ tally wire.old }
+    ensures left { IsLeft wire.old wire.new }
+    ensures gave_up { IsSome result.tries
+        ↔ (IsInSession post.old.label.in_session wire.old × HasGivenUp hub.now post.old.line) }
+    ensures why { IfSome result.tries (λ end. end
+        ≡ tries_end post.old.label.tries_since (silence_of wire.old) surroundings.old.now wire.old.last_bytes) }
+    ensures kept { ¬ HasGivenUp hub.now post.old.line → ¬ HasRefused post.old.label session.now →
+        ¬ IsOverOn wire.old.protocol post.old.label session.now → wire.new.connection ≡ wire.old.connection }
+    ensures refused { HasRefused post.old.label session.now → ¬ IsConnected wire.new }
+    ensures ended { IsSome result.tries → ¬ IsConnected wire.new }
+{
+    let tries = end_tries(surroundings, post.line, &post.label, hub, wire);
+    let entrance = &mut post.entrance;
+    let is_refused = end_refused(surroundings, entrance, &mut post.label, session, wire);
+    let is_over = end_over(&post.label, session, wire);
+    let end = heard_end(wire, tries.is_some() || is_refused || is_over);
+    Parting {
+        tries,
+        is_refused,
+        end,
     }
 }
 
@@ -195,14 +248,15 @@ fn end_tries<N: Network + Drop, L: Write + Drop>(
 /// tells of it, and has the line take none for a second. Answers whether one was.
 fn end_refused<N: Network + Drop, L: Write + Drop>(
     surroundings: &mut Surroundings<N, L>,
-    entrance: &mut Entrance<N::Connection>,
+    entrance: &mut Entrance<Asking<N::Connection>>,
     label: &mut Label,
     session: &SessionView,
     wire: &mut LineWire<N::Connection>,
 ) -> bool
     ensures refused { IsTrue result ↔ HasRefused label.old session.now }
     ensures barred { IsTrue result → label.new ≡ record label.old { barred_until = barred_until surroundings.old.now } }
-    ensures closed { IsTrue result → wire.new ≡ after_close wire.old }
+    ensures closed { IsTrue result → IsRefusedOn wire.old.protocol N.Connection.moved N.Connection.said wire.old wire.new }
+    ensures gone { IsTrue result → ¬ IsConnected wire.new }
     ensures left { IsLeft wire.old wire.new }
     ensures noted { IsTrue result →
         entrance.new ≡ parted label.old.had_session true surroundings.old.now entrance.old }
@@ -219,11 +273,43 @@ fn end_refused<N: Network + Drop, L: Write + Drop>(
     if !label.has_refused(session) {
         return false;
     }
-    wire.close();
+    refuse(wire);
     label.barred_until = surroundings.now.saturating_add(BARRED);
     entrance.part(label.had_session, true, surroundings.now);
     surroundings.tell(label, told_refusal(session.last_refusal, entrance));
     true
+}
+
+/// Ends the connection of a line over TCP/IP that was in a session which is over, by whatever end:
+/// the peer opens the link anew. Answers whether it was.
+fn end_over<C: Connection + Drop>(
+    label: &Label,
+    session: &SessionView,
+    wire: &mut LineWire<C>,
+) -> bool
+    ensures over { IsTrue result → IsOverOn wire.old.protocol label.now session.now }
+    ensures closed { IsTrue result → wire.new ≡ after_close wire.old }
+    ensures kept { ¬ IsTrue result → wire.new ≡ wire.old }
+    ensures left { IsLeft wire.old wire.new }
+    ensures counts { wire.old.failures ≤ wire.new.failures }
+    ensures tally { tally wire.new ≡ tally wire.old }
+{
+    if !is_over(wire.protocol(), label, session) || !wire.is_connected() {
+        return false;
+    }
+    wire.close();
+    true
+}
+
+/// Whether a session is over that was on the line of this protocol, whose connections end with
+/// their sessions.
+fn is_over(protocol: Protocol, label: &Label, session: &SessionView) -> bool
+    ensures { IsTrue result ↔ IsOverOn protocol label.now session.now }
+{
+    match protocol {
+        Protocol::Bisync => false,
+        Protocol::Tcp => { (label.in_session || label.had_session) && !is_session(session.phase) }
+    }
 }
 
 /// Tells of a line's sessions what is to be told now, if anything is.
@@ -286,7 +372,7 @@ fn heard_end<C: Connection + Drop>(wire: &mut LineWire<C>, gave_up: bool) -> Opt
         return None;
     }
     // The next read is to tell the hub.
-    if wire.is_ready() && !gave_up {
+    if is_ready(wire) && !gave_up {
         return None;
     }
     wire.take_end()

@@ -6,18 +6,19 @@ ghost use Rattle.njh_lines.specs.Connecting.{IsConnected};
 ghost use Rattle.njh_sites.specs.Doors.{door_address, IsLookedAtAgain};
 ghost use Rattle.njh_sites.specs.Opened.{site_kept};
 
-use crate::doors::try_door;
+use crate::doors::{keep_door, try_door};
+use crate::entrance::Entrance;
 use crate::post::Post;
 use crate::surroundings::Surroundings;
 use njh_sight::Label;
-use njh_sites::{Admission, Door, Site, listens_again};
+use njh_sites::{Admission, Asking, Door, Site, listens_again};
+use njh_table::Protocol;
 use njh_wire::{LineWire, Network, Readiness};
 use std::io::Write;
 
 /// Keeps a line stopped: its connection ends, peers that wait are let go, and nobody is dialled.
 pub(crate) fn hold<N: Network + Drop, L: Write + Drop>(
     surroundings: &mut Surroundings<N, L>,
-    place: usize,
     post: &mut Post<N::Listener, N::Connection>,
     wire: &mut LineWire<N::Connection>,
     mark: Readiness,
@@ -34,17 +35,45 @@ pub(crate) fn hold<N: Network + Drop, L: Write + Drop>(
     ensures customers { surroundings.new.customers ≡ surroundings.old.customers }
 {
     wire.close();
-    surroundings.clear(&mut post.entrance.anteroom);
     match &mut post.site {
         Site::Listens(door) => {
-            if mark.listener || post.moment <= surroundings.now {
-                post.moment = turn_away(surroundings, place, door, &post.label);
+            let entrance = &mut post.entrance;
+            if mark.listener || mark.reads || post.moment <= surroundings.now {
+                post.moment = refuse(surroundings, door, entrance, &mut post.label, wire);
             }
         }
         Site::Dials(dial) => {
             dial.halt();
             post.moment = u64::MAX;
         }
+    }
+}
+
+/// Lets go who waits; over TCP/IP each is heard, and answered that the line is stopped. Answers when
+/// the door is to be looked at again.
+fn refuse<N: Network + Drop, L: Write + Drop>(
+    surroundings: &mut Surroundings<N, L>,
+    door: &mut Door<N::Listener>,
+    entrance: &mut Entrance<Asking<N::Connection>>,
+    label: &mut Label,
+    wire: &mut LineWire<N::Connection>,
+) -> u64
+    ensures counts { wire.old.failures ≤ wire.new.failures }
+    ensures tally { tally wire.new ≡ tally wire.old }
+    ensures clock { wire.new.clock ≡ wire.old.clock }
+    ensures now { surroundings.new.now ≡ surroundings.old.now }
+    ensures customers { surroundings.new.customers ≡ surroundings.old.customers }
+    ensures from { entrance.new.from ≡ entrance.old.from }
+    ensures address { door_address N.address_of door.new ≡ door_address N.address_of door.old }
+    ensures shut { IsLookedAtAgain door.new result }
+    ensures stands { wire.new ≡ wire.old }
+{
+    match wire.protocol() {
+        Protocol::Bisync => {
+            surroundings.clear(&mut entrance.anteroom);
+            turn_away(surroundings, wire.place(), door, label)
+        }
+        Protocol::Tcp => keep_door(surroundings, door, entrance, label, wire, true),
     }
 }
 

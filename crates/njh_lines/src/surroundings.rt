@@ -1,10 +1,10 @@
 //! What the attendant has around the lines.
 
-ghost use Rattle.std.specs.Prelude.{◌≡◌, ◌<◌, ◌≤◌, [], length, nat_lt};
+ghost use Rattle.std.specs.Prelude.{◌≡◌, ◌<◌, ◌≤◌, [], ◌∷◌, ◌++◌, length, nat_lt, remove, slice_get, IfSome};
 ghost use Rattle.std.specs.Net.Socket.{socket_ip};
 ghost use Rattle.njh_table.specs.Ranges.{number_of};
 ghost use Rattle.njh_anteroom.specs.Next.{entry_of, guest_at, next_place, without_place};
-ghost use Rattle.njh_anteroom.specs.Waiting.{seated};
+ghost use Rattle.njh_anteroom.specs.Waiting.{number_in, seated, HasPlace};
 ghost use Rattle.njh_log.specs.Limiting.{AreTold, AreWritten, IsTold, IsToldText, Writes};
 ghost use Rattle.njh_log.specs.Spells.{due_in};
 ghost use Rattle.njh_lines.specs.Connecting.{place_of};
@@ -15,6 +15,7 @@ use njh_ebcdic::Name;
 use njh_log::{EventKind, Heading, LimitedLog, Log, LogEvent, Place, Severity};
 use njh_sight::{Customers, Label};
 use njh_wire::Network;
+use std::alloc::Global;
 use std::fmt;
 use std::io::Write;
 use std::net::SocketAddr;
@@ -32,6 +33,8 @@ pub(crate) struct Surroundings<N: Network + Drop, L: Write + Drop> {
     /// How many wait in the anterooms of all lines, and how many may.
     pub(crate) guests: u64,
     pub(crate) most_guests: u64,
+    /// Where anterooms take their memory, as lines are added, and connections over TCP/IP.
+    pub(crate) alloc: Global,
 }
 
 impl<N: Network + Drop, L: Write + Drop> Surroundings<N, L> {
@@ -103,6 +106,37 @@ impl<N: Network + Drop, L: Write + Drop> Surroundings<N, L> {
         let guest = anteroom.next(self.now);
         self.recount(before, anteroom.waiting().len());
         guest
+    }
+
+    /// Takes out of an anteroom who waits before all others, and may wait again.
+    pub(crate) fn first_of<C: Drop>(&mut self, anteroom: &mut Anteroom<C>) -> Option<Guest<C>>
+        ensures guest { result ≡ slice_get anteroom.old.waiting 0 }
+        ensures now { self.new.now ≡ self.old.now }
+        ensures waiting { anteroom.new ≡ record anteroom.old { waiting = remove anteroom.old.waiting 0 } }
+        ensures returns { IfSome result (λ guest. HasPlace (number_in guest) anteroom.new.waiting) }
+        ensures guests { self.new ≡ record self.old {
+          guests =
+              recounted self.old.guests (length anteroom.old.waiting) (length anteroom.new.waiting);
+        } }
+    {
+        let before = anteroom.waiting().len();
+        let guest = anteroom.take_first();
+        self.recount(before, anteroom.waiting().len());
+        guest
+    }
+
+    /// One that was taken out of an anteroom waits there again, behind all others.
+    pub(crate) fn put_back<C: Drop>(&mut self, anteroom: &mut Anteroom<C>, guest: Guest<C>)
+        requires { HasPlace (number_in guest) anteroom.old.waiting }
+        ensures waiting { anteroom.new ≡ record anteroom.old { waiting = anteroom.old.waiting ++ guest ∷ [] } }
+        ensures guests { self.new ≡ record self.old {
+          guests =
+              recounted self.old.guests (length anteroom.old.waiting) (length anteroom.new.waiting);
+        } }
+    {
+        let before = anteroom.waiting().len();
+        anteroom.put_last(guest);
+        self.recount(before, anteroom.waiting().len());
     }
 
     /// Nobody waits in an anteroom any more.

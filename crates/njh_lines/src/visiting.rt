@@ -11,7 +11,7 @@ ghost use Rattle.njh_lines.specs.Connecting.{IsConnected};
 ghost use Rattle.njh_sight.specs.News.{news_moment, IsTold};
 ghost use Rattle.njh_sites.specs.Opened.{site_kept};
 ghost use Rattle.njh_sight.specs.Sessions.{is_up, HasRefused};
-ghost use Rattle.njh_lines.specs.Connecting.{IsReady};
+ghost use Rattle.njh_lines.specs.Connecting.{IsOverOn, IsReady};
 ghost use Rattle.njh_lines.specs.Resting.{IsMarkedFor, IsNextLook};
 ghost use Rattle.njh_lines.specs.Watching.{noted_of};
 ghost use Rattle.njh_lines.specs.Wires.{IsLeft};
@@ -19,16 +19,18 @@ ghost use Rattle.njh_sight.specs.Prompting.{noted};
 ghost use Rattle.njh_request.specs.declared.request.LineState.TheVariants.{Stopped};
 
 use crate::attention::{NOTHING, Watch, is_marked};
-use crate::connecting::drive;
+use crate::dialling::drive;
 use crate::doors::keep_door;
+use crate::entrance::Entrance;
 use crate::line_state::is_stopped;
 use crate::post::Post;
 use crate::sessions::{look, tell_sessions};
 use crate::stopping::hold;
 use crate::surroundings::Surroundings;
+use crate::wires::{beside_at, deadline, is_ready, tend};
 use njh_hub::{Hub, SessionView};
 use njh_sight::{Sight, Traffic, is_up, session_of, sight_of};
-use njh_sites::Site;
+use njh_sites::{Asking, Site};
 use njh_table::LineId;
 use njh_wire::{Connection, LineWire, Network, Readiness};
 use std::io::Write;
@@ -40,7 +42,6 @@ const AGAIN: u64 = 100;
 /// then. No mark of it stays.
 pub(crate) fn begin<N: Network + Drop, L: Write + Drop>(
     surroundings: &mut Surroundings<N, L>,
-    place: usize,
     post: &mut Post<N::Listener, N::Connection>,
     ready: &mut Readiness,
     watch: &mut Watch,
@@ -68,15 +69,15 @@ pub(crate) fn begin<N: Network + Drop, L: Write + Drop>(
     }
     *ready = NOTHING;
     wire.set_clock(surroundings.now);
+    tend(wire, surroundings.now);
     if is_ready || post.moment <= surroundings.now || is_stopped(post.state) {
-        attend(surroundings, place, post, wire, mark);
+        attend(surroundings, post, wire, mark);
     }
 }
 
 /// Looks at a line of which something is ready, or whose site's moment came.
 pub(crate) fn attend<N: Network + Drop, L: Write + Drop>(
     surroundings: &mut Surroundings<N, L>,
-    place: usize,
     post: &mut Post<N::Listener, N::Connection>,
     wire: &mut LineWire<N::Connection>,
     mark: Readiness,
@@ -93,7 +94,7 @@ pub(crate) fn attend<N: Network + Drop, L: Write + Drop>(
     ensures customers { surroundings.new.customers ≡ surroundings.old.customers }
 {
     if is_stopped(post.state) {
-        hold(surroundings, place, post, wire, mark);
+        hold(surroundings, post, wire, mark);
     } else {
         look_for_peer(surroundings, post, wire, mark);
     }
@@ -126,9 +127,9 @@ fn look_for_peer<N: Network + Drop, L: Write + Drop>(
     }
     match &mut post.site {
         Site::Listens(door) => {
-            if mark.listener || post.moment <= surroundings.now {
-                let entrance = &mut post.entrance;
-                post.moment = keep_door(surroundings, door, entrance, &mut post.label, wire);
+            let entrance = &mut post.entrance;
+            if mark.listener || post.moment <= surroundings.now || asks(mark, entrance) {
+                post.moment = keep_door(surroundings, door, entrance, &mut post.label, wire, false);
             }
         }
         Site::Dials(dial) => {
@@ -142,6 +143,11 @@ fn look_for_peer<N: Network + Drop, L: Write + Drop>(
             post.moment = dial.moment();
         }
     }
+}
+
+/// Whether one who waits may have said something: on a line over TCP/IP those who wait are heard.
+fn asks<C: Drop>(mark: Readiness, entrance: &Entrance<Asking<C>>) -> bool {
+    mark.reads && !entrance.anteroom.waiting().is_empty()
 }
 
 /// Ends the connection of a line whose session gave up, or refused a sign-on, and tells what
@@ -165,6 +171,7 @@ pub(crate) fn apply_session<N: Network + Drop, L: Write + Drop>(
     ensures tells { result ≤ news_moment post.new.label.news }
     ensures kept { HasLine hub.now post.old.line → ¬ HasGivenUp hub.now post.old.line →
         ¬ HasRefused post.old.label (line_view (hub_line post.old.line hub.now).state) →
+        ¬ IsOverOn wire.old.protocol post.old.label (line_view (hub_line post.old.line hub.now).state) →
         wire.new.connection ≡ wire.old.connection }
     ensures left { IsLeft wire.old wire.new }
     ensures quiet { HasLine hub.now post.old.line → wire.new.quiet ≡ quiet_on post.old.line hub.now }
@@ -185,7 +192,7 @@ pub(crate) fn apply_session<N: Network + Drop, L: Write + Drop>(
     );
     let soon = post.traffic.soon(now);
     let moment = next_look(wire, post.moment, soon, now);
-    moment.min(post.label.news.moment())
+    moment.min(post.label.news.moment()).min(beside_at(wire))
 }
 
 /// Looks at a line, if something came, or the line was quiet or prompted, or a sign-on was refused.
@@ -207,6 +214,7 @@ fn visit<N: Network + Drop, L: Write + Drop>(
     ensures told { IsTold post.new.label.news surroundings.old.now }
     ensures kept { HasLine hub.now post.old.line → ¬ HasGivenUp hub.now post.old.line →
         ¬ HasRefused post.old.label (line_view (hub_line post.old.line hub.now).state) →
+        ¬ IsOverOn wire.old.protocol post.old.label (line_view (hub_line post.old.line hub.now).state) →
         wire.new.connection ≡ wire.old.connection }
     ensures left { IsLeft wire.old wire.new }
     ensures refused { HasLine hub.now post.old.line → HasRefused post.old.label session.now →
@@ -268,19 +276,20 @@ fn set_session<C: Connection + Drop>(session: &SessionView, wire: &mut LineWire<
 /// When a line wants to be looked at: at once if something is ready; else at the first of what it
 /// waits for. `moment` is its site's, `soon` that of texts that were on it of late.
 fn next_look<C: Connection + Drop>(wire: &LineWire<C>, moment: u64, soon: u64, now: u64) -> u64
-    ensures waits { 0 < length wire.now.waiting → result ≡ first_of (again_at now) moment (stalled_at wire.now) }
+    ensures waits { 0 < length wire.now.waiting → ¬ IsReady wire.now →
+        result ≡ first_of (again_at now) moment (stalled_at wire.now) }
     ensures ready { IsReady wire.now → result ≡ now }
     ensures rests { wire.now.waiting ≡ [] → ¬ IsReady wire.now → IsSome wire.now.connection →
         result ≡ first_of (due wire.now) moment soon }
     ensures alone { wire.now.waiting ≡ [] → ¬ IsReady wire.now → wire.now.connection ≡ None →
         result ≡ first_of 18446744073709551615 moment soon }
 {
-    if wire.waits_to_send() {
-        let again = now.saturating_add(AGAIN);
-        return again.min(moment).min(wire.deadline());
-    }
-    if wire.is_ready() {
+    if is_ready(wire) {
         return now;
     }
-    wire.deadline().min(moment).min(soon)
+    if wire.waits_to_send() {
+        let again = now.saturating_add(AGAIN);
+        return again.min(moment).min(deadline(wire));
+    }
+    deadline(wire).min(moment).min(soon)
 }

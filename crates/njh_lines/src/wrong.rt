@@ -1,14 +1,16 @@
 //! What is wrong with a line now, and what the operator wants of it.
 
 ghost use Rattle.std.specs.Prelude.{◌≡◌};
-ghost use Rattle.njh_lines.specs.Wrong.{first_wrong, intended_on, wrong_on, wrong_site, wrong_where};
+ghost use Rattle.njh_lines.specs.Wrong.{first_wrong, intended_on, wrong_dial, wrong_on, wrong_site, wrong_where};
 
 use crate::post::Post;
 use njh_hub::SessionView;
 use njh_log::LogEvent;
+use njh_open::NakReason;
 use njh_request::LineState;
 use njh_sight::wrong_session;
 use njh_sites::{Dial, Door, Site};
+use std::net::SocketAddr;
 
 /// What is wrong with a line whose session is seen so, as the log tells it: the first of the things
 /// that may be. Nothing is wrong with one that the operator stopped, or has stopped once it is idle.
@@ -20,7 +22,7 @@ pub fn wrong_on<Li: Drop, C: Drop>(
 ) -> Option<LogEvent>
     ensures { result ≡ wrong_on post.now session.now is_connected now }
 {
-    let site = wrong_site(&post.site);
+    let site = wrong_site(&post.site, post.label.nak);
     let session = wrong_session(&post.label, session, is_connected, now);
     wrong_where(post.state, first_wrong(site, session))
 }
@@ -57,9 +59,12 @@ pub fn intended_on(state: LineState) -> Option<LogEvent>
     }
 }
 
-/// Its port can't be listened on, or its last dial failed.
-fn wrong_site<Li: Drop, C: Drop>(site: &Site<Door<Li>, Dial<C>>) -> Option<LogEvent>
-    ensures { result ≡ wrong_site site.now }
+/// Its port can't be listened on, or its last dial failed, or was answered NAK.
+fn wrong_site<Li: Drop, C: Drop>(
+    site: &Site<Door<Li>, Dial<C>>,
+    nak: Option<NakReason>,
+) -> Option<LogEvent>
+    ensures { result ≡ wrong_site nak site.now }
 {
     match site {
         Site::Listens(Door::Open(_)) => None,
@@ -68,10 +73,20 @@ fn wrong_site<Li: Drop, C: Drop>(site: &Site<Door<Li>, Dial<C>>) -> Option<LogEv
         }
         Site::Dials(dial) => {
             if dial.has_failed() {
-                Some(LogEvent::DialFailed(dial.address()))
+                Some(wrong_dial(dial.address(), nak))
             } else {
                 None
             }
         }
+    }
+}
+
+/// A dial to an address failed, or was answered NAK.
+fn wrong_dial(address: SocketAddr, nak: Option<NakReason>) -> LogEvent
+    ensures { result ≡ wrong_dial address nak }
+{
+    match nak {
+        Some(reason) => LogEvent::PeerRefused(reason),
+        None => LogEvent::DialFailed(address),
     }
 }

@@ -2,6 +2,7 @@ use Rattle.std.proofs.Common.{◌≡◌, ℕ, ◌+◌, List, [], ◌∷◌, ◌+
 use Rattle.std.proofs.lemmas.List.{length-append, length-map}
 use Rattle.njh_wire.specs.declared.network.Readiness.{Readiness}
 use Rattle.njh_lines.specs.declared.attention.Watch.{Watch}
+use Rattle.njh_sites.specs.declared.asking.Asking.{Asking}
 use Rattle.njh_lines.specs.declared.entrance.Entrance.{Entrance}
 use Rattle.njh_lines.specs.Attention.{at_once, nothing, IsInGroup}
 use Rattle.njh_sight.specs.Waking.{with_line, IsRowMade}
@@ -48,7 +49,7 @@ returns-clause-added g c =
     (c.push_reserved-3.ensures.items ∙ ap (λ (posts : List P). posts ++ c.new-2.result ∷ []) c.reserve.ensures.items)
     (ap (λ (seen : Watched). seen.lines) c.self.view_is) c.new-2.ensures.line
     (c.new-2.ensures.site g.N.Network.address_of)
-    (ap (λ (entrance : Entrance g.row.N-Connection.Denot). entrance.from)
+    (ap (λ (entrance : Entrance (Asking g.row.N-Connection.Denot)). entrance.from)
     (c.new-2.ensures.entrance ∙ c.in_ok-entrance.ensures))
     c.new-2.ensures.state
 

@@ -10,6 +10,8 @@ use Rattle.njh_lines.specs.Resting.{IsNextLook}
 use Rattle.njh_lines.specs.Watching.{noted_of, served_line, Noted, ServedLine, Watched}
 use Rattle.njh_lines.specs.Wires.{session_on}
 use Rattle.njh_lines.specs.declared.post.Post.{Post}
+use Rattle.njh_lines.specs.Connecting.{StaysOn}
+use Rattle.njh_lines.proofs.ProtocolLaws.{stays_not_over}
 use Rattle.njh_lines.proofs.PostLaws.{lines_stay, line_there, others_noted, post_there, seen_there, served_stays}
 use Rattle.njh_lines.proofs.exchange.Exchange.apply_session.Goals as goal
 
@@ -24,7 +26,7 @@ returns-clause-lines g c =
     c.apply_session.ensures.site c.apply_session.ensures.from c.apply_session.ensures.state)
 
 pub returns-clause-kept : goal.returns-clause-kept
-returns-clause-kept g c = λ line seen found noted there alive fits.
+returns-clause-kept g c = λ line seen found noted there alive fits stays.
     let Within : ℕ → Type 0 = λ many. c.args.place < many in
     let IsThere : ServedLine → Type 0 = λ own. HasLine c.args.hub.now own.id in
     let IsAlive : ServedLine → Type 0 = λ own. ¬ HasGivenUp c.args.hub.now own.id in
@@ -41,6 +43,8 @@ returns-clause-kept g c = λ line seen found noted there alive fits.
     c.apply_session.ensures.kept (subst IsThere own there) (subst IsAlive own alive)
     (subst (λ (its : ServedLine). ¬ HasRefusedMore post.label.refusals (session its)) own
     (subst (λ (n : ℕ). ¬ HasRefusedMore n (session line)) had fits))
+    (stays_not_over c.args.wire.now.protocol post.label (line_view (hub_line post.line c.args.hub.now).state)
+    (subst (λ (its : ServedLine). StaysOn c.args.wire.now.protocol (session its)) own stays))
 
 pub returns-clause-quiet : goal.returns-clause-quiet
 returns-clause-quiet g c = λ line found there.

@@ -16,9 +16,9 @@ rest-requires g c =
 pub returns-clause-done : goal.returns-clause-done
 returns-clause-done g c = λ due. record {
   out = record {
-    middle = c.flush.new.self;
-    idle = c.flush.ensures.idle;
-    flushed = c.flush.ensures.flushed;
+    middle = c.let_out.new.wire;
+    idle = c.let_out.ensures.idle;
+    flushed = c.let_out.ensures.flushed;
     left = c.apply_session-moment.ensures.left;
   };
   judged = c.apply_session-moment.ensures.judged;

@@ -22,7 +22,7 @@ returns g c =
     let Says : Traffic → LineId → ℕ → Type 0 =
     λ noted id now. IsTrue c.prompts.result ↔ IsPrompted noted c.args.hub.now id now in
     let at_now = subst (Says c.in-Some.post.now.traffic c.in-Some.post.now.line)
-    (ap (λ (seen : Watched). seen.now) c.self.view_is) c.prompts.ensures in
+    (ap (λ (seen : Watched). seen.now) c.self.view_is) c.prompts.ensures.prompted in
     let of_line : (line : ServedLine) (noted : Noted) → slice_get c.args.self.now.lines c.args.place ≡ Some line
     → slice_get c.args.self.now.noted c.args.place ≡ Some noted → Says noted.traffic line.id c.args.self.now.now =
     λ line noted found known.
