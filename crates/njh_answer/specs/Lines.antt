@@ -16,6 +16,8 @@ use Rattle.njh_stream.specs.declared.sender.Sender.TheVariants as sender
 use Rattle.njh_table.specs.declared.LineId.{LineId}
 use Rattle.njh_table.specs.declared.Role.{Role}
 use Rattle.njh_table.specs.declared.Role.TheVariants.{Call, Answer}
+use Rattle.njh_table.specs.declared.Protocol.{Protocol}
+use Rattle.njh_table.specs.declared.Protocol.TheVariants.{Bisync, Tcp}
 use Rattle.njh_table.specs.TableFile.{NamedCustomer, NamedLine, no_line}
 use Rattle.njh_customer.specs.Customer.{CustomerLine}
 use Rattle.njh_hub.specs.Files.{said_name}
@@ -59,6 +61,10 @@ turn_text SentI has_turn = codes "nobody"
 abbrev pub role_text : Role → List ℕ
 role_text Call = codes "calls"
 role_text Answer = codes "answers"
+
+abbrev pub protocol_text : Protocol → List ℕ
+protocol_text Bisync = codes "bisync"
+protocol_text Tcp = codes "tcp"
 
 abbrev pub session_data : SessionView → Data
 session_data s = object (
@@ -178,11 +184,12 @@ line_data named s line served = object (
     (member (codes "messages") (messages_where line)
     (member (codes "name") (string named.name)
     (member (codes "node") (string (name_text named.entry.node))
+    (member (codes "protocol") (string (protocol_text named.protocol))
     (member (codes "queue") (queue_where served line)
     (member (codes "role") (string (role_text named.entry.role))
     (member (codes "served") (served_data served)
     (member (codes "session") (session_where line)
-    (member (codes "to_hub") (array (items_of (receivers_where s line))) no_members)))))))))
+    (member (codes "to_hub") (array (items_of (receivers_where s line))) no_members))))))))))
 
 abbrev pub line_id : ℕ → ℕ → LineId
 line_id c index = record { customer = c; number = index }

@@ -8,7 +8,7 @@ ghost use Rattle.njh_spool.specs.CustomerSpool.{whole_numbered};
 ghost use Rattle.njh_table.specs.TableFile.{customer_at};
 ghost use Rattle.njh_answer.specs.Lines.{going_data, is_of_line, line_data, line_told, line_where};
 ghost use Rattle.njh_answer.specs.Lines.{lines_data, lines_told_from, messages_where, name_where};
-ghost use Rattle.njh_answer.specs.Lines.{phase_text};
+ghost use Rattle.njh_answer.specs.Lines.{phase_text, protocol_text};
 ghost use Rattle.njh_answer.specs.Queues.{queue_where};
 ghost use Rattle.njh_answer.specs.Lines.{receiver_data, receivers_where, role_text, sender_data, senders_where};
 ghost use Rattle.njh_answer.specs.Lines.{served_data, session_data, session_where, turn_text};
@@ -22,7 +22,7 @@ use njh_hub::{Hub, SessionView};
 use njh_line::Phase;
 use njh_spool::FileId;
 use njh_stream::{Receiver, Sender};
-use njh_table::{LineId, NamedLine, Role, Tables};
+use njh_table::{LineId, NamedLine, Protocol, Role, Tables};
 use serde_json::{Value, json};
 use std::alloc::{AllocError, Global};
 
@@ -70,6 +70,15 @@ fn role_text(role: Role) -> &'static str
     match role {
         Role::Call => "calls",
         Role::Answer => "answers",
+    }
+}
+
+fn protocol_text(protocol: Protocol) -> &'static str
+    ensures { result.now ≡ protocol_text protocol }
+{
+    match protocol {
+        Protocol::Bisync => "bisync",
+        Protocol::Tcp => "tcp",
     }
 }
 
@@ -293,6 +302,7 @@ fn line_value(
         "messages": messages,
         "name": named.name(),
         "node": node,
+        "protocol": protocol_text(named.protocol()),
         "queue": queue,
         "role": role_text(named.role()),
         "served": served,

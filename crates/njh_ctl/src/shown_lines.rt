@@ -50,7 +50,7 @@ fn show_line(
 {
     show_names(alloc, customer, line, out)?;
     show_served(alloc, line, out)?;
-    show_messages(alloc, line, out)?;
+    show_below(alloc, line, out)?;
     show_streams(alloc, line, is_alone, out)
 }
 
@@ -257,6 +257,27 @@ fn show_refusal(alloc: Global, refused: &Value, out: &mut String) -> Result<(), 
         out,
         format!(in alloc; "  refused sign-ons of {address}: {count}\n"),
     )
+}
+
+/// Tells that a line is over TCP/IP, if it is, and of its messages.
+fn show_below(alloc: Global, line: &Value, out: &mut String) -> Result<(), CtlFault>
+    ensures shown { OnOk result (Adds IsAny out.old out.new) }
+    ensures fault { IfErr result IsPlain }
+{
+    show_protocol(alloc, line, out)?;
+    show_messages(alloc, line, out)
+}
+
+fn show_protocol(alloc: Global, line: &Value, out: &mut String) -> Result<(), CtlFault>
+    ensures shown { OnOk result (Adds IsAny out.old out.new) }
+    ensures fault { IfErr result IsPlain }
+{
+    match line.get("protocol").and_then(Value::as_str) {
+        Some(protocol) if protocol == "tcp" => {
+            add(out, String::from_str(alloc, "  over TCP/IP\n"))
+        }
+        _ => Ok(()),
+    }
 }
 
 /// Tells how many nodal messages wait, if any do.

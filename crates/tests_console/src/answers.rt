@@ -37,6 +37,7 @@ node = "METZ"
 role = "answer"
 block = 1024
 streams = 4
+protocol = "tcp"
 [[customer.route]]
 node = "LYON"
 line = "a1"

@@ -34,8 +34,9 @@ pub(crate) const LINES: &str = "{\"customer\":\"ACME\",\"lines\":[{\"from_hub\":
     [\"203.0.113.9:50112\",\"[2001:db8::9]:40212\"]},\
     \"session\":{\"phase\":\"up\",\"refusals\":0,\"tries\":0,\"turn\":\"hub\"},\
     \"to_hub\":[null,{\"records\":120}]},{\"from_hub\":[{\"state\":\"given up\"}],\"messages\":1,\
-    \"name\":\"a2\",\"node\":\"METZ\",\"queue\":[{\"node\":\"METZ\",\"since\":1790649950,\
-    \"user\":\"PAUL\"},{\"node\":\"PARIS\",\"since\":null,\"user\":\"\"}],\
+    \"name\":\"a2\",\"node\":\"METZ\",\"protocol\":\"tcp\",\
+    \"queue\":[{\"node\":\"METZ\",\"since\":1790649950,\"user\":\"PAUL\"},\
+    {\"node\":\"PARIS\",\"since\":null,\"user\":\"\"}],\
     \"role\":\"calls\",\"served\":{\"connected\":null,\
     \"counts\":{\"blocks\":{\"in\":31,\"out\":32},\"bytes\":{\"in\":4101,\"out\":4102},\
     \"commands\":7,\"cut_off\":1,\"dropped\":9,\"files\":{\"in\":3,\"out\":4},\
@@ -45,7 +46,8 @@ pub(crate) const LINES: &str = "{\"customer\":\"ACME\",\"lines\":[{\"from_hub\":
     \"last_end\":\"five tries\",\"naks\":0,\"peer\":null,\"refused\":[],\"repeats\":0,\
     \"site\":\"dials 10.0.0.9:2703\",\"stands\":{\"from_hub\":[1790649980],\"to_hub\":\
     [1790649970]},\"state\":\"stopped\",\"state_since\":1790649960,\"up\":null,\"waiting\":[],\
-    \"wrong\":{\"severity\":\"warning\",\"since\":1790649990,\"text\":\"no connection\"}},\
+    \"wrong\":{\"severity\":\"warning\",\"since\":1790649990,\"text\":\
+    \"the peer answered NAK 2 (the link is active)\"}},\
     \"session\":{\"phase\":\"down\",\"refusals\":1,\"tries\":2,\
     \"turn\":\"nobody\"},\"to_hub\":[{\"state\":\"passed over\"}]},{\"from_hub\":[],\
     \"messages\":null,\"name\":\"a3\",\"node\":\"NICE\",\"role\":\"answers\",\"served\":null,\

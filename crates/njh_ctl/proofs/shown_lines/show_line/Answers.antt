@@ -11,8 +11,8 @@ returns-clause-shown c =
     let served = c.in_ok-show_served.ensures.shown in
     let mid = c.show_served.new.out in
     let new = c.show_streams.new.out in
-    on_ok_weaker c.show_streams.result (λ (streams : Adds IsAny c.show_messages.new.out new).
-    let more = any_more mid c.show_messages.new.out new c.in_ok-show_messages.ensures.shown streams in (
+    on_ok_weaker c.show_streams.result (λ (streams : Adds IsAny c.show_below.new.out new).
+    let more = any_more mid c.show_below.new.out new c.in_ok-show_below.ensures.shown streams in (
       _,
       record {
         names = names.0;
