@@ -1,4 +1,5 @@
 mod BureauLaws
+mod ClosingLaws
 mod EndpointLaws
 mod RevisingLaws
 mod ServedLaws

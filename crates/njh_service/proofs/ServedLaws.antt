@@ -11,7 +11,8 @@ use Rattle.std.specs.declared.net.socket_addr.SocketAddr.{SocketAddr}
 use Rattle.njh_table.specs.TableFile.{TableFile, table_line}
 use Rattle.njh_table.specs.declared.LineId.{LineId}
 use Rattle.njh_table.specs.declared.address_range.AddressRange.{AddressRange}
-use Rattle.njh_wire.specs.Standing.{first_standing, Standing}
+use Rattle.njh_table.specs.declared.Protocol.{Protocol}
+use Rattle.njh_wire.specs.Standing.{Standing}
 use Rattle.njh_sites.specs.Opened.{site_on, site_opened}
 use Rattle.njh_service.specs.Serving.{ArePlaced}
 use Rattle.njh_lines.specs.Watching.{served_on, ServedLine}
@@ -96,7 +97,7 @@ next_left {X} xs n x ys left =
 
 -- a wire more stands at its place
 pub placed_more : {C : Type 0} (wires new : List (Standing C)) (wire : Standing C) (place : ℕ)
-    → new ≡ wires ++ wire ∷ [] → length wires ≡ place → wire ≡ first_standing place → ArePlaced wires → ArePlaced new
+    → new ≡ wires ++ wire ∷ [] → length wires ≡ place → wire.place ≡ place → ArePlaced wires → ArePlaced new
 placed_more {C} wires new wire place added many own placed =
     let Placed : List (Standing C) → Type 0 = λ ws. ArePlaced ws in
     subst Placed (sym added) (λ p d within. ⊎_elim
@@ -105,5 +106,20 @@ placed_more {C} wires new wire place added many own placed =
     (λ (last : length wires ≤ p).
     let here : p ≡ length wires = omega (arith, last, within, length-append wires (wire ∷ [])) in
     ap (λ (n : ℕ). (get_or (wires ++ wire ∷ []) n d).place) here
-    ∙ (ap (λ (w : Standing C). w.place) (get_or-append_seam wires wire [] d ∙ own) ∙ (sym many ∙ sym here)))
+    ∙ (ap (λ (w : Standing C). w.place) (get_or-append_seam wires wire [] d) ∙ (own ∙ (sym many ∙ sym here))))
     (cases_lt p (length wires)))
+
+-- and waits by the rules of its line's protocol
+pub protocols_more : {C : Type 0} (endpoints : List Endpoint) (wires new : List (Standing C)) (wire : Standing C)
+    (place : ℕ) (d : Endpoint) → new ≡ wires ++ wire ∷ [] → place < length endpoints
+    → wire.protocol ≡ (get_or endpoints place d).protocol
+    → map (λ (w : Standing C). w.protocol) wires ≡ map (λ (e : Endpoint). e.protocol) (take place endpoints)
+    → map (λ (w : Standing C). w.protocol) new ≡ map (λ (e : Endpoint). e.protocol) (take (place + 1) endpoints)
+protocols_more {C} endpoints wires new wire place d added within own so_far =
+    let of_wire : Standing C → Protocol = λ w. w.protocol in
+    let of_end : Endpoint → Protocol = λ e. e.protocol in
+    ap (map of_wire) added
+    ∙ (map-append of_wire wires (wire ∷ [])
+    ∙ (ap (λ (ps : List Protocol). ps ++ wire.protocol ∷ []) so_far
+    ∙ (ap (λ (p : Protocol). map of_end (take place endpoints) ++ p ∷ []) own
+    ∙ sym (map_more of_end endpoints place d within))))

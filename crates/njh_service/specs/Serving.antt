@@ -60,6 +60,10 @@ abbrev pub ArePlaced : {C : Type 0} → List (Standing C) → Type 0
 ArePlaced {C} wires =
     (place : ℕ) (d : Standing C) → place < length wires → (slice_index_or wires place d).place ≡ place
 
+-- and waits by the rules of its line's protocol
+abbrev pub HaveProtocols : {C : Type 0} → List Endpoint → List (Standing C) → Type 0
+HaveProtocols endpoints wires = map (λ wire. wire.protocol) wires ≡ map (λ endpoint. endpoint.protocol) endpoints
+
 -- a hub of these tables that has no files
 abbrev pub IsOpenedEmpty : TableFile → List Part → Type 0
 IsOpenedEmpty tables parts = parts ≡ map part_at_open (entries_of tables)

@@ -180,6 +180,7 @@ fn names_of<'a>(tables: &'a Tables, id: LineId) -> LineNames<'a>
         customer: tables.customer(id.customer).name(),
         line: entry.name(),
         node: entry.node(),
+        hub: tables.customer(id.customer).hub(),
         streams: entry.streams(),
     }
 }

@@ -7,7 +7,8 @@ ghost use Rattle.njh_turns.specs.Turns.{no_quiets};
 ghost use Rattle.njh_table.specs.TableFile.{HasLine};
 ghost use Rattle.njh_sites.specs.Endpoints.{endpoints_of, lines_of};
 ghost use Rattle.njh_sites.specs.Opened.{IsApart};
-ghost use Rattle.njh_service.specs.Serving.{AreServedFrom, ArePlaced, IsOpened, IsOpenedOn};
+ghost use Rattle.njh_service.specs.Serving.{AreServedFrom, ArePlaced, HaveProtocols, IsOpened, IsOpenedOn};
+ghost use Rattle.njh_wire.specs.Standing.{first_standing};
 ghost use Rattle.njh_lines.specs.Watching.{served_on};
 
 use crate::bureau::Bureau;
@@ -17,7 +18,7 @@ use njh_hub::Hub;
 use njh_log::Log;
 use njh_revision::TableSource;
 use njh_sites::{Endpoint, Listening};
-use njh_table::Tables;
+use njh_table::{Protocol, Tables};
 use njh_turns::Depot;
 use njh_wire::{Connection, LineWire, Network};
 use std::alloc::{AllocError, Global};
@@ -86,6 +87,7 @@ pub fn service_on<N: Network + Drop, L: Write + Drop, S: TableSource + Drop, D: 
     ensures attended { IfOk result (λ service. service.attendant.exchange.lines
         ≡ bureau.exchange.lines ++ map (served_on tables listening.address) (endpoints_of tables)) }
     ensures places { IfOk result (λ service. ArePlaced service.wires) }
+    ensures protocols { IfOk result (λ service. HaveProtocols (endpoints_of tables) service.wires) }
     ensures settled { IfOk result (λ service. IsSettled D.says service.depot service.hub) }
 {
     match bureau.open_lines(alloc, &tables, listening, needed) {
@@ -112,6 +114,7 @@ fn service_of<N: Network + Drop, L: Write + Drop, S: TableSource + Drop, D: Depo
       exchange = record bureau.exchange { arrivals = service.attendant.exchange.arrivals };
     }) }
     ensures places { IfOk result (λ service. ArePlaced service.wires) }
+    ensures protocols { IfOk result (λ service. HaveProtocols endpoints.now service.wires) }
     ensures settled { IfOk result (λ service. IsSettled D.says service.depot service.hub) }
 {
     let customers = tables.customers().len();
@@ -141,6 +144,7 @@ fn service_over<N: Network + Drop, L: Write + Drop, S: TableSource + Drop, D: Dr
     ensures calm { IfOk result (λ service. service.quiets ≡ no_quiets (lines_of endpoints.now)) }
     ensures attended { IfOk result (λ service. service.attendant ≡ bureau) }
     ensures places { IfOk result (λ service. ArePlaced service.wires) }
+    ensures protocols { IfOk result (λ service. HaveProtocols endpoints.now service.wires) }
 {
     let wires = match wires_for(alloc, endpoints) {
         Ok(wires) => wires,
@@ -155,17 +159,31 @@ fn service_over<N: Network + Drop, L: Write + Drop, S: TableSource + Drop, D: Dr
     }
 }
 
-/// A wire for each, with the place of its line, on which nobody is connected.
+/// A wire for each, with the place and the protocol of its line, on which nobody is connected.
 fn wires_for<C: Connection + Drop>(
     alloc: Global,
     endpoints: &[Endpoint],
 ) -> Result<Vec<LineWire<C>>, AllocError>
     ensures many { IfOk result (λ wires. length wires.items ≡ length endpoints.now) }
     ensures places { IfOk result (λ wires. ArePlaced wires.items) }
+    ensures protocols { IfOk result (λ wires. HaveProtocols endpoints.now wires.items) }
 {
     let mut wires = Vec::new(alloc);
     for place in 0..endpoints.len() {
-        wires.push(LineWire::new(alloc, place)?)?;
+        wires.push(wire_for(alloc, place, endpoints[place].protocol)?)?;
     }
     Ok(wires)
+}
+
+/// The wire of the line at this place, which waits by the rules of the line's protocol.
+fn wire_for<C: Connection + Drop>(
+    alloc: Global,
+    place: usize,
+    protocol: Protocol,
+) -> Result<LineWire<C>, AllocError>
+    ensures { IfOk result (λ wire. wire ≡ record (first_standing place) { protocol = protocol }) }
+{
+    let mut wire = LineWire::new(alloc, place)?;
+    wire.set_protocol(protocol);
+    Ok(wire)
 }

@@ -19,6 +19,8 @@ const MOST: usize = 240;
 #[derive(Drop)]
 pub(crate) struct Troubles {
     alloc: Global,
+    /// The moment at which it is collected.
+    clock: LineClock,
     /// What is collected.
     pub(crate) all: Vec<Trouble>,
     /// How many more there are.
@@ -26,10 +28,11 @@ pub(crate) struct Troubles {
 }
 
 impl Troubles {
-    /// None.
-    pub(crate) fn new(alloc: Global) -> Troubles {
+    /// Nothing yet, by this clock.
+    pub(crate) fn new(alloc: Global, clock: LineClock) -> Troubles {
         Troubles {
             alloc,
+            clock,
             all: Vec::new(alloc),
             more: 0,
         }
@@ -74,6 +77,7 @@ impl Troubles {
             alloc,
             mut all,
             more,
+            ..
         } = self;
         if more > 0 {
             let text = format!(in alloc; "and {more} more")?;
@@ -88,15 +92,12 @@ impl Troubles {
     }
 }
 
-/// What is wrong now: with the table file, with files that couldn't be put back at the start, with
-/// the log, with customers, with lines. Out of memory is the only refusal.
-pub(crate) fn add_all<N: Network + Drop, L: Write + Drop, S: TableSource + Drop>(
-    exchange: &Exchange<N, L>,
+/// Adds what is wrong with the service itself: with the table file, with files that couldn't be put
+/// back at the start, with the log, of which so many lines were dropped.
+pub(crate) fn add_own<S: TableSource + Drop>(
     revision: &Revision<S>,
     wrong: &WrongSince,
-    hub: &Hub,
-    wires: &[LineWire<N::Connection>],
-    clock: LineClock,
+    dropped: u64,
     troubles: &mut Troubles,
 ) -> Result<(), AllocError> {
     let alloc = troubles.alloc;
@@ -104,12 +105,7 @@ pub(crate) fn add_all<N: Network + Drop, L: Write + Drop, S: TableSource + Drop>
         let text = format!(in alloc; "{fault}")?;
         troubles.add_text(text, Severity::Error, wrong.table)?;
     }
-    add_losses(wrong, exchange.dropped(), troubles)?;
-    for customer in 0..CUSTOMERS as u16 {
-        add_customer(exchange, hub, customer, clock, troubles)?;
-        add_routes(exchange, revision, wrong, customer, troubles)?;
-    }
-    add_lines(exchange, hub, wires, clock, troubles)
+    add_losses(wrong, dropped, troubles)
 }
 
 /// Adds that so many files couldn't be put back, and that so many lines of the log were dropped.
@@ -123,6 +119,21 @@ fn add_losses(wrong: &WrongSince, dropped: u64, troubles: &mut Troubles) -> Resu
     if dropped > 0 {
         let text = format!(in alloc; "log: {dropped} lines were dropped")?;
         troubles.add_text(text, Severity::Warning, wrong.log)?;
+    }
+    Ok(())
+}
+
+/// Adds what is wrong with the customers: with their files, and with their routes.
+pub(crate) fn add_customers<N: Network + Drop, L: Write + Drop, S: TableSource + Drop>(
+    exchange: &Exchange<N, L>,
+    revision: &Revision<S>,
+    wrong: &WrongSince,
+    hub: &Hub,
+    troubles: &mut Troubles,
+) -> Result<(), AllocError> {
+    for customer in 0..CUSTOMERS as u16 {
+        add_customer(exchange, hub, customer, troubles)?;
+        add_routes(exchange, revision, wrong, customer, troubles)?;
     }
     Ok(())
 }
@@ -152,10 +163,10 @@ fn add_customer<N: Network + Drop, L: Write + Drop>(
     exchange: &Exchange<N, L>,
     hub: &Hub,
     customer: u16,
-    clock: LineClock,
     troubles: &mut Troubles,
 ) -> Result<(), AllocError> {
     let alloc = troubles.alloc;
+    let clock = troubles.clock;
     let customers = exchange.customers();
     let Some(name) = customers.name(customer) else {
         return Ok(());
@@ -183,17 +194,16 @@ fn seconds_of(clock: LineClock, moment: Option<u64>) -> Option<u64> {
 }
 
 /// Adds what is wrong with the lines.
-fn add_lines<N: Network + Drop, L: Write + Drop>(
+pub(crate) fn add_lines<N: Network + Drop, L: Write + Drop>(
     exchange: &Exchange<N, L>,
     hub: &Hub,
     wires: &[LineWire<N::Connection>],
-    clock: LineClock,
     troubles: &mut Troubles,
 ) -> Result<(), AllocError> {
     let posts = exchange.posts();
     for place in 0..posts.len() {
         let is_connected = is_connected_at(wires, place);
-        add_line(&posts[place], hub, is_connected, clock, troubles)?;
+        add_line(&posts[place], hub, is_connected, troubles)?;
     }
     Ok(())
 }
@@ -203,9 +213,9 @@ fn add_line<Li: Drop, C: Drop>(
     post: &Post<Li, C>,
     hub: &Hub,
     is_connected: bool,
-    clock: LineClock,
     troubles: &mut Troubles,
 ) -> Result<(), AllocError> {
+    let clock = troubles.clock;
     let session = session_of(hub, post.line);
     if let Some(event) = wrong_on(post, &session, is_connected, clock.now) {
         let place = line_place(troubles.alloc, post)?;
@@ -248,13 +258,12 @@ pub(crate) fn line_trouble<Li: Drop, C: Drop>(
 /// What the operator wants of lines that aren't started.
 pub(crate) fn add_intended<N: Network + Drop, L: Write + Drop>(
     exchange: &Exchange<N, L>,
-    clock: LineClock,
     intended: &mut Troubles,
 ) -> Result<(), AllocError> {
     for post in exchange.posts() {
         if let Some(event) = intended_on(post.state) {
             let place = line_place(intended.alloc, post)?;
-            let since = clock.seconds_at(post.state_since);
+            let since = intended.clock.seconds_at(post.state_since);
             intended.add(place.as_str(), event, Some(since))?;
         }
     }

@@ -7,9 +7,9 @@ use crate::act::{Answer, Ports};
 use crate::scene::Scene;
 use njh_presence::SpoolSeen;
 use njh_revision::TableSource;
-use njh_table::{TableFault, Tables};
+use njh_table::{Role, TableFault, Tables};
 use njh_wire::{Connection, ConnectionFault, ConnectionRead, Network, Readiness};
-use std::alloc::Global;
+use std::alloc::{AllocError, Global};
 use std::io;
 use std::io::{ErrorKind, Read, Write};
 use std::net::SocketAddr;
@@ -181,6 +181,10 @@ impl<'a> Connection for SceneConnection<'a> {
             Some(count) => Ok(count.min(bytes.len())),
             None => Err(ConnectionFault),
         }
+    }
+
+    fn by_tcp(self, _alloc: Global, _role: Role) -> Result<SceneConnection<'a>, AllocError> {
+        Ok(self)
     }
 }
 

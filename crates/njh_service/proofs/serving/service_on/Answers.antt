@@ -1,11 +1,16 @@
-use Rattle.std.proofs.Common.{◌++◌, ◌∙◌, ap, map, subst, List}
+use Rattle.std.proofs.Common.{◌++◌, ◌∙◌, ap, map, subst, sym, List}
 use Rattle.std.specs.Prelude.{IfOk}
 use Rattle.std.proofs.lemmas.Result.{IfOk-weaker}
+use Rattle.njh_sites.specs.Opened.{IsApart}
 use Rattle.njh_sites.specs.declared.endpoints.Endpoint.{Endpoint}
 use Rattle.njh_service.specs.Bureaus.{Attended}
-use Rattle.njh_service.specs.Serving.{IsOpenedOn}
+use Rattle.njh_service.specs.Serving.{HaveProtocols, IsOpenedOn}
 use Rattle.njh_lines.specs.Watching.{served_on, ServedLine}
 use Rattle.njh_service.proofs.serving.service_on.Goals as goal
+
+-- no two that were opened have the same port
+pub service_of-requires-clause-apart : goal.service_of-requires-clause-apart
+service_of-requires-clause-apart g c = subst IsApart (sym c.deref.ensures.value) c.in-Ok.ensures.apart
 
 -- the endpoints that were opened are those of the tables
 pub returns-in-Ok-clause-opened : goal.returns-in-Ok-clause-opened
@@ -23,3 +28,10 @@ returns-in-Ok-clause-attended g c =
     let lines = c.in-Ok.ensures.served ∙ ap Of c.in-Ok.ensures.all in
     IfOk-weaker c.service_of.result _ _ (λ service same. ap Lines same ∙ lines)
     c.service_of.ensures.attended
+
+-- and so are the protocols of its wires
+pub returns-in-Ok-clause-protocols : goal.returns-in-Ok-clause-protocols
+returns-in-Ok-clause-protocols g c =
+    subst (λ (endpoints : List Endpoint). IfOk c.service_of.result
+    (λ service. HaveProtocols endpoints service.wires))
+    (c.deref.ensures.value ∙ c.in-Ok.ensures.all) c.service_of.ensures.protocols

@@ -9,6 +9,10 @@ pub invariant_of-self : goal.invariant_of-self
 invariant_of-self g c =
     λ is. none_drain c.self.inside.exchange c.line_views.new.exchange c.line_views.ensures.same (c.self.invariant is)
 
+pub invariant_of-self-in-Err : goal.invariant_of-self-in-Err
+invariant_of-self-in-Err g c =
+    λ is. none_drain c.self.inside.exchange c.line_views.new.exchange c.line_views.ensures.same (c.self.invariant is)
+
 -- what was asked of these lines
 pub returns-in-Ok-clause-asked : goal.returns-in-Ok-clause-asked
 returns-in-Ok-clause-asked g c =
