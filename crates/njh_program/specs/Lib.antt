@@ -1,4 +1,3 @@
 pub mod ProgramOutcome
 pub mod ShownText
 pub mod SpoolService
-pub mod Unserved

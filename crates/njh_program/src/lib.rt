@@ -18,7 +18,6 @@ mod spooling;
 mod standard_error;
 mod start_log;
 mod table_source;
-mod unserved;
 
 pub use njh_subcommands::{Failure, tables_of};
 pub use program::{carry_out, end, run};

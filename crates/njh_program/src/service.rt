@@ -10,7 +10,6 @@ use crate::console_log::open_console;
 use crate::handles::refuse_few;
 use crate::start_log::log_failure;
 use crate::table_source::TableFileSource;
-use crate::unserved::refuse_unserved;
 use njh_arguments::VERSION;
 use njh_console::Console;
 use njh_lines::Exchange;
@@ -21,6 +20,7 @@ use njh_sites::Listening;
 use njh_sockets::{MioNetwork, utc_milliseconds};
 use njh_subcommands::{Failure, tables_twice};
 use njh_table::Tables;
+use njh_tcpwire::LineNetwork;
 use njh_turns::{Depot, KeepsNothing};
 use njh_wire::Network;
 use std::alloc::Global;
@@ -121,11 +121,12 @@ fn bureau_of<'a, R: Files + Net + Clock + AllocGlobal, L: Write + Drop, S: Table
     console: Option<&str>,
     mut log: Log<L>,
     revision: Revision<S>,
-) -> Result<Bureau<MioNetwork<'a, R>, L, S>, (Failure, Log<L>)>
+) -> Result<Bureau<LineNetwork<MioNetwork<'a, R>>, L, S>, (Failure, Log<L>)>
     ensures { IfErr result (λ refused. IsOfDevices refused.0) }
 {
     match network_for(rt, tables, console, &mut log) {
         Ok((network, guests)) => {
+            let network = LineNetwork::over(network);
             let exchange = Exchange::new(rt.alloc(), network, log, guests);
             bureau_on(rt.alloc(), exchange, revision)
         }
@@ -164,7 +165,6 @@ fn network_for<'a, R: Files + Net + Clock + AllocGlobal, L: Write + Drop>(
     ensures refused { IfErr result IsOfDevices }
     ensures few { IfOk result (λ found. found.1 ≤ 64) }
 {
-    refuse_unserved(rt, tables, log)?;
     let guests = refuse_few(rt, tables, log)?;
     let mut network = network_on(rt, log)?;
     match open_console(rt, &mut network, console, log) {
