@@ -8,6 +8,12 @@
 
 Each but `listen`, which goes on until Ctrl-C, signs off when it is done. The line's role is "answer": the peer makes
 contact. Bytes are in peer_bytes.py beside this file, and docs/PROTOCOL.md says why; examples/letters is a session.
+
+With `--tcp` it speaks NJE over TCP/IP (peer_tcp.py), and is told the hub's name; with `--accept` the hub dials it. So
+two of them reach each other:
+
+    python3 examples/peer.py --tcp --accept --port 1175 --node METZ --hub LYON listen
+    python3 examples/peer.py --tcp --port 1175 --node LYON --hub METZ tell PAUL@METZ "HI"
 """
 
 import argparse
@@ -19,6 +25,7 @@ import sys
 import time
 
 import peer_bytes as wire
+import peer_tcp
 from peer_bytes import ACK0, COMPLETE, EOT, GENERAL, MESSAGE, NAK, PERMISSION, REFUSAL, REQUEST, SYSOUT_1, Trouble
 
 # What becomes of a file that the peer sends, by what the hub answers.
@@ -36,7 +43,8 @@ class Session:
     """A session with the hub: contact, sign-on, turns, sign-off. As it stands here, it listens until Ctrl-C."""
 
     def __init__(self, options):
-        self.options, self.line = options, wire.Line(options.host, options.port)
+        self.options = options
+        self.line = peer_tcp.TcpLine(options) if options.tcp else wire.Line(options.host, options.port)
         self.count, self.sent = 0, b""  # the next block count, and the last frame
         self.heard, self.hub_fcs = None, wire.FCS  # of the hub's last block
         self.came, self.is_ending = time.monotonic(), False
@@ -80,27 +88,46 @@ class Session:
         options, records = self.options, []
         self.say(wire.ENQUIRY)
         self.hear("no answer to the contact: is another peer on this line?", question=wire.ENQUIRY)
-        self.say_block(wire.sign_on_of(options.node, options.password), bcb=0xA0)
+        self.say_block(wire.sign_on_of(wire.SIGN_ON, options.node, options.password), bcb=0xA0)
+        refusal = f"the hub doesn't take {options.node}: another node's line, or a password?"
         while not records:
-            records = self.hear(f"the hub doesn't take {options.node}: another node's line, or a password?", tries=2)
-        response = records[0][2]
-        self.hub, self.size = wire.name_in(response, 1), min(wire.BLOCK_SIZE, int.from_bytes(response[16:18], "big"))
-        if options.hub not in (None, self.hub):
-            raise Trouble(f"the hub on this line is {self.hub}, not {options.hub}")
+            records = self.hear(refusal, tries=2)
+        self.meet(records[0], wire.RESPONSE, refusal)
+
+    def answer_sign_on(self):
+        """Answers the hub's contact and its sign-on, whose block says no more."""
+        while self.line.read() != wire.ENQUIRY:
+            pass
+        self.say(ACK0)
+        self.meet((self.hear("no sign-on") or [None])[0], wire.SIGN_ON, "no sign-on")
+        self.say_block(wire.sign_on_of(wire.RESPONSE, self.options.node, self.options.password), bcb=0xA0)
+        self.take_block()
+
+    def meet(self, first, srcb, refusal):
+        """Takes the hub's name and the size of its blocks from its sign-on or the answer to one."""
+        if first is None or first[:2] != (GENERAL, srcb):
+            raise Trouble(refusal)
+        self.hub, self.size = wire.name_in(first[2], 1), min(wire.BLOCK_SIZE, int.from_bytes(first[2][16:18], "big"))
+        if self.options.hub not in (None, self.hub):
+            raise Trouble(f"the hub on this line is {self.hub}, not {self.options.hub}")
 
     def run(self):
         """Signs on, takes turns with the hub until all is done or Ctrl-C comes, and signs off."""
-        self.sign_on()
+        self.answer_sign_on() if self.options.accept else self.sign_on()
         signal.signal(signal.SIGINT, self.end)
         while not (self.is_ending or self.is_done()):
             records = self.next_records()
             self.say_block(records) if records else self.say(ACK0)
-            for record in self.hear("session lost: the hub doesn't answer"):
-                self.came = time.monotonic()
-                self.take(*record)
+            self.take_block()
         self.say_block(bytes([GENERAL, wire.SIGN_OFF]))
         self.line.close()
         self.tell_outcome()
+
+    def take_block(self):
+        """Takes the hub's next block, and what is in it."""
+        for record in self.hear("session lost: the hub doesn't answer"):
+            self.came = time.monotonic()
+            self.take(*record)
 
     def end(self, *_):
         """Ctrl-C: the peer signs off at its next turn. A second one ends the program."""
@@ -266,6 +293,8 @@ def options_of_command_line():
     parser.add_argument("--user", type=name, default="OPERATOR", help="who speaks; OPERATOR if left out")
     parser.add_argument("--hub", type=name, help="the hub's name, if it is to be checked")
     parser.add_argument("--password", type=name, help="the password of the line, if it has one")
+    parser.add_argument("--tcp", action="store_true", help="speaks NJE over TCP/IP; with the hub's name")
+    parser.add_argument("--accept", action="store_true", help="with --tcp: the hub dials this port")
     tasks = parser.add_subparsers(dest="task", required=True)
     tasks.add_parser("listen", help="prints what is said to the node")
     tell = tasks.add_parser("tell", help="says a message to a user of another node")
@@ -280,7 +309,12 @@ def options_of_command_line():
     receive = tasks.add_parser("receive", help="stores the files that wait for the node")
     receive.add_argument("folder", type=pathlib.Path, metavar="FOLDER")
     receive.add_argument("--wait", type=float, default=3, help="ends when nothing came for so many seconds; 3")
-    return parser.parse_args()
+    options = parser.parse_args()
+    if options.tcp and not options.hub:
+        parser.error("--tcp wants --hub")
+    if options.accept and not options.tcp:
+        parser.error("--accept wants --tcp")
+    return options
 
 
 def main():

@@ -13,7 +13,7 @@ REQUEST, PERMISSION, REFUSAL, COMPLETE, OUT_OF_SEQUENCE, GENERAL = 0x90, 0xA0, 0
 SYSOUT_1, MESSAGE = 0x99, 0x9A
 
 # SRCBs: of general records, and of the records of a file.
-SIGN_ON, SIGN_OFF = 0xC9, 0xC2
+SIGN_ON, RESPONSE, SIGN_OFF = 0xC9, 0xD1, 0xC2
 JOB_HEADER, DATA_SET_HEADER, TRAILER, DATA_SET_TRAILER, DATA = 0xC0, 0xE0, 0xD0, 0xF0, 0x80
 CARRIAGE_CONTROL = (0x90, 0xA0)  # the first byte of such a line is for the printer
 
@@ -96,9 +96,9 @@ def follows(bcb, last):
     return bcb & 0x70 != 0 or bcb % 16 == (last + 1) % 16 or (has_set and bcb % 16 == last % 16)
 
 
-def sign_on_of(node, password):
-    """The record with which a node signs on."""
-    head = bytes([GENERAL, SIGN_ON, 0x29]) + field(node) + b"\x01" + bytes(6) + BLOCK_SIZE.to_bytes(2, "big")
+def sign_on_of(srcb, node, password):
+    """The record with which a node signs on, or answers one that does."""
+    head = bytes([GENERAL, srcb, 0x29]) + field(node) + b"\x01" + bytes(6) + BLOCK_SIZE.to_bytes(2, "big")
     return head + field(password or "") + field("") + bytes(5)
 
 

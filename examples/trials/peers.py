@@ -72,9 +72,13 @@ class Peer:
     def __init__(self, loop, port, node, source=None):
         self.loop, self.node, self.deframer = loop, node, Deframer()
         self.is_up, self.is_closed, self.sent, self.naks, self.answers, self.longest = False, False, b"", 0, 0, 0.0
-        self.socket = connected(port, source=source)
+        self.socket = self.connect(port, source)
         loop.add(self)
         self.begin()
+
+    def connect(self, port, source):
+        """The peer's connection."""
+        return connected(port, source=source)
 
     def begin(self):
         """Makes contact, also after a session that is over."""
