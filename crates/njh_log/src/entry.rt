@@ -1,6 +1,7 @@
 //! What the log tells.
 
 use crate::awaited::Awaited;
+use crate::file_line::{FileLine, write_field};
 use crate::last_frame::LastFrame;
 use crate::listen_cause::ListenCause;
 use crate::notice_line::NoticeLine;
@@ -8,9 +9,8 @@ use crate::order_line::write_giver;
 use crate::reasons::{EndText, RefusalText};
 use crate::route_news::RouteNews;
 use njh_block::Stream;
-use njh_ebcdic::{Name, text_of};
-use njh_header::{Destination, FileName, User};
-use njh_hub::{FileSummaryView, HubFault};
+use njh_ebcdic::Name;
+use njh_hub::HubFault;
 use njh_line::Refusal;
 use njh_link::LinkFault;
 use njh_open::NakReason;
@@ -20,9 +20,6 @@ use njh_request::{EndMoment, RequestRefusal, Terms};
 use njh_tcp::Hosts;
 use std::fmt;
 use std::net::{IpAddr, SocketAddr};
-
-/// A blank in EBCDIC.
-const BLANK: u8 = 0x40;
 
 /// Something that an operator wants to know.
 #[derive(Clone, Copy, Drop)]
@@ -169,21 +166,6 @@ pub enum DownCause {
     Stopped,
 }
 
-/// What is told of a file.
-#[derive(Clone, Copy, Drop)]
-pub struct FileLine {
-    /// What it is called.
-    pub name: FileName,
-    /// Whose it is.
-    pub owner: User,
-    /// Where it goes.
-    pub destination: Destination,
-    /// How many records it has.
-    pub records: u32,
-    /// How many blocks it takes.
-    pub blocks: u32,
-}
-
 impl fmt::Display for LogEvent {
     fn fmt<W: fmt::Write>(&self, f: &mut fmt::Formatter<W>) -> fmt::Result {
         match self {
@@ -321,15 +303,6 @@ impl fmt::Display for DownCause {
     }
 }
 
-impl fmt::Display for FileLine {
-    fn fmt<W: fmt::Write>(&self, f: &mut fmt::Formatter<W>) -> fmt::Result {
-        self.write_name(f)?;
-        self.write_owner(f)?;
-        self.write_destination(f)?;
-        write!(f, ", {} records, {} blocks", self.records, self.blocks)
-    }
-}
-
 /// A stream, shown as SYSIN 1 to SYSOUT 4.
 #[derive(Clone, Copy, Drop)]
 struct StreamName(Stream);
@@ -345,64 +318,10 @@ impl fmt::Display for StreamName {
     }
 }
 
-impl FileLine {
-    /// What is told of this file.
-    pub fn of(file: &FileSummaryView) -> FileLine {
-        FileLine {
-            name: file.name,
-            owner: file.owner,
-            destination: file.destination,
-            records: file.records,
-            blocks: file.blocks,
-        }
-    }
-
-    /// Writes what it is called.
-    fn write_name<W: fmt::Write>(&self, f: &mut fmt::Formatter<W>) -> fmt::Result {
-        write!(f, "{}.{}", self.name.node, self.name.number)
-    }
-
-    /// Writes whose it is.
-    fn write_owner<W: fmt::Write>(&self, f: &mut fmt::Formatter<W>) -> fmt::Result {
-        f.write_str(" of ")?;
-        write!(f, "{}", self.owner.node)?;
-        write_user(f, &self.owner.user)
-    }
-
-    /// Writes where it goes.
-    fn write_destination<W: fmt::Write>(&self, f: &mut fmt::Formatter<W>) -> fmt::Result {
-        f.write_str(" for ")?;
-        write_field(f, &self.destination.node)?;
-        write_user(f, &self.destination.user)
-    }
-}
-
-/// Writes a user after the node, if there is one.
-pub(crate) fn write_user<W: fmt::Write>(f: &mut fmt::Formatter<W>, user: &[u8]) -> fmt::Result {
-    match user.first() {
-        Some(&BLANK) => Ok(()),
-        _ => {
-            f.write_str(".")?;
-            write_field(f, user)
-        }
-    }
-}
-
 /// Writes that an OPEN with these names was refused.
 fn write_other_names<W: fmt::Write>(f: &mut fmt::Formatter<W>, hosts: &Hosts) -> fmt::Result {
     f.write_str("refused: an OPEN of ")?;
     write_field(f, &hosts.from)?;
     f.write_str(" for ")?;
     write_field(f, &hosts.to)
-}
-
-/// Writes the characters of a field, up to its first blank.
-fn write_field<W: fmt::Write>(f: &mut fmt::Formatter<W>, field: &[u8]) -> fmt::Result {
-    for byte in field {
-        if *byte == BLANK {
-            return Ok(());
-        }
-        f.write_char(text_of(*byte))?;
-    }
-    Ok(())
 }

@@ -5,6 +5,7 @@ mod awaited;
 mod command_line;
 mod entry;
 mod event_kind;
+mod file_line;
 mod heading;
 mod last_frame;
 mod limited;
@@ -21,8 +22,9 @@ mod spells;
 
 pub use awaited::Awaited;
 pub use command_line::CommandLine;
-pub use entry::{ConnectionFailure, DownCause, FileLine, LogEvent, Rebuff, SessionChange};
+pub use entry::{ConnectionFailure, DownCause, LogEvent, Rebuff, SessionChange};
 pub use event_kind::EventKind;
+pub use file_line::FileLine;
 pub use heading::{Heading, Place};
 pub use last_frame::LastFrame;
 pub use limited::LimitedLog;

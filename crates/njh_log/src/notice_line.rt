@@ -2,7 +2,7 @@
 
 ghost use Rattle.std.specs.Prelude.{◌≡◌, take};
 
-use crate::entry::write_user;
+use crate::file_line::write_user;
 use njh_ebcdic::{FIELD, Name, text_of};
 use njh_nmr::LONGEST_MESSAGE;
 use njh_stream::Notice;

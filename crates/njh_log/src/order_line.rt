@@ -1,6 +1,6 @@
 //! What the log tells of an order.
 
-use crate::entry::write_user;
+use crate::file_line::write_user;
 use njh_command::Replies;
 use njh_ebcdic::text_of;
 use njh_header::User;

@@ -13,7 +13,7 @@ use Rattle.njh_spool.specs.declared.State.{State}
 use Rattle.njh_spool.specs.declared.State.TheVariants.{Ready, Held, Refused, Sending}
 use Rattle.njh_sight.specs.declared.customers.Came.{Came}
 use Rattle.njh_sight.specs.declared.customers.FileCount.{FileCount}
-use Rattle.njh_log.specs.declared.entry.FileLine.{FileLine}
+use Rattle.njh_log.specs.declared.file_line.FileLine.{FileLine}
 use Rattle.njh_log.specs.declared.notice_line.NoticeLine.{NoticeLine}
 use Rattle.njh_log.specs.declared.entry.LogEvent.{LogEvent}
 use Rattle.njh_log.specs.declared.entry.LogEvent.TheVariants as events

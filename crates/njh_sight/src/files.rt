@@ -2,7 +2,7 @@
 
 ghost use Rattle.std.specs.Prelude.{◌≡◌, ◌<◌, ℕ, Bool, Some, slice_get};
 ghost use Rattle.njh_sight.specs.Telling.{arrival, departure, loss, state_on};
-ghost use Rattle.njh_log.specs.declared.entry.FileLine.{FileLine};
+ghost use Rattle.njh_log.specs.declared.file_line.FileLine.{FileLine};
 
 use crate::streams::Streams;
 use njh_block::Stream;
