@@ -25,7 +25,7 @@ use crate::entrance::Entrance;
 use crate::line_state::is_stopped;
 use crate::post::Post;
 use crate::surroundings::Surroundings;
-use crate::telling::{tell_commands, tell_files};
+use crate::telling::{LineStep, tell_commands, tell_files};
 use crate::wires::{is_ready, refuse};
 use njh_arrivals::Arrivals;
 use njh_hub::{Hub, SessionView};
@@ -188,14 +188,12 @@ pub(crate) fn follow<N: Network + Drop, L: Write + Drop>(
             surroundings.now,
         );
     }
-    tell_files(
-        surroundings,
-        post.line,
-        &post.label,
-        &mut post.streams,
+    let step = LineStep {
+        id: post.line,
+        label: &post.label,
         hub,
-        arrivals,
-    );
+    };
+    tell_files(surroundings, &step, &mut post.streams, arrivals);
     tell_commands(surroundings, &post.label, &mut post.streams.tally, hub);
     post.stands.note(post.line, hub, surroundings.now);
 }

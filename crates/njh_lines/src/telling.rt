@@ -21,51 +21,81 @@ use njh_turns::{Depot, NewOrder};
 use njh_wire::Network;
 use std::io::Write;
 
+/// A line after a step on it, and the hub that made the step.
+#[derive(Clone, Copy, Drop)]
+pub(crate) struct LineStep<'a> {
+    pub(crate) id: LineId,
+    pub(crate) label: &'a Label,
+    pub(crate) hub: &'a Hub,
+}
+
+/// A file that came in on the stream of a place of a line, and comes no more, as these came.
+#[derive(Clone, Copy, Drop)]
+struct Ended {
+    place: usize,
+    file: FileId,
+    came: Came,
+}
+
+impl LineStep<'_> {
+    /// Whether the line's customer has a whole file of this number.
+    fn has(&self, file: FileId) -> bool {
+        self.hub.file_summary(self.id.customer, file).is_some()
+    }
+
+    /// What is told of that file as it came in, if the customer has it.
+    fn arrival_of(&self, file: FileId) -> Option<LogEvent> {
+        let summary = self.hub.file_summary(self.id.customer, file)?;
+        Some(arrival(summary.state, FileLine::of(&summary)))
+    }
+
+    /// What is told of a file that comes in no more, and which the customer hasn't.
+    fn loss_of(&self, ended: Ended) -> LogEvent
+        requires { ended.place < 8 }
+    {
+        let Ended { place, came, .. } = ended;
+        if came.files > 0 && !came.are_there {
+            LogEvent::FileLeft(Stream::at(place as u8))
+        } else {
+            loss_on(self.hub, self.id, place)
+        }
+    }
+}
+
 /// Tells which files of a line came, went out or were refused by a step on it, and whether its
 /// customer has come near its quota, or near the number of files that it may have.
 pub(crate) fn tell_files<N: Network + Drop, L: Write + Drop>(
     surroundings: &mut Surroundings<N, L>,
-    id: LineId,
-    label: &Label,
+    step: &LineStep<'_>,
     streams: &mut Streams,
-    hub: &Hub,
     arrivals: &mut Arrivals,
 )
     ensures now { surroundings.new.now ≡ surroundings.old.now }
     ensures customers { surroundings.new.customers ≡ surroundings.old.customers }
 {
-    tell_coming(surroundings, id, label, streams, hub, arrivals);
-    tell_going(surroundings, id, label, streams, hub);
-    tell_quota(surroundings, id.customer, label, hub);
-    tell_file_count(surroundings, id.customer, label, hub);
+    tell_coming(surroundings, step, streams, arrivals);
+    tell_going(surroundings, step, streams);
+    tell_quota(surroundings, step);
+    tell_file_count(surroundings, step);
 }
 
 /// Tells of the files that came in, and notes when.
 fn tell_coming<N: Network + Drop, L: Write + Drop>(
     surroundings: &mut Surroundings<N, L>,
-    id: LineId,
-    label: &Label,
+    step: &LineStep<'_>,
     streams: &mut Streams,
-    hub: &Hub,
     arrivals: &mut Arrivals,
 )
     ensures now { surroundings.new.now ≡ surroundings.old.now }
     ensures customers { surroundings.new.customers ≡ surroundings.old.customers }
 {
-    let came = surroundings.customers.count_files(id.customer, hub);
+    let came = surroundings
+        .customers
+        .count_files(step.id.customer, step.hub);
     if came.are_there {
-        let tally = &mut streams.tally;
-        tell_newest(
-            surroundings,
-            id.customer,
-            label,
-            came.files,
-            hub,
-            arrivals,
-            tally,
-        );
+        tell_newest(surroundings, step, came.files, arrivals, &mut streams.tally);
     }
-    let Ok(receivers) = hub.receivers(id) else {
+    let Ok(receivers) = step.hub.receivers(step.id) else {
         return;
     };
     let now = files_coming(receivers);
@@ -77,46 +107,38 @@ fn tell_coming<N: Network + Drop, L: Write + Drop>(
             break;
         };
         if let Some(file) = streams.coming[place] {
-            let ended = Ended { id, place, file };
-            let tally = &mut streams.tally;
-            tell_ended(surroundings, ended, label, came, hub, arrivals, tally);
+            let ended = Ended { place, file, came };
+            tell_ended(surroundings, step, ended, arrivals, &mut streams.tally);
         }
         streams.coming[place] = None;
     }
     streams.coming = now;
 }
 
-/// Tells of a customer's newest files, so many, which are those that came in.
+/// Tells of the newest files of a line's customer, so many, which are those that came in.
 fn tell_newest<N: Network + Drop, L: Write + Drop>(
     surroundings: &mut Surroundings<N, L>,
-    customer: u16,
-    label: &Label,
+    step: &LineStep<'_>,
     files: u32,
-    hub: &Hub,
     arrivals: &mut Arrivals,
     tally: &mut Tally,
 )
     ensures now { surroundings.new.now ≡ surroundings.old.now }
     ensures customers { surroundings.new.customers ≡ surroundings.old.customers }
 {
-    let count = hub.file_count(customer);
+    let customer = step.id.customer;
+    let count = step.hub.file_count(customer);
     for index in count.saturating_sub(files)..count {
-        let file = hub.number_at(customer, index);
-        if let Some(summary) = hub.file_summary(customer, file) {
-            arrivals.note(customer, file, seconds(surroundings));
-            let event = arrival(summary.state, FileLine::of(&summary));
-            tell_file(surroundings, label, tally, &event);
-        }
+        let file = step.hub.number_at(customer, index);
+        tell_arrival(surroundings, step, file, arrivals, tally);
     }
 }
 
 /// Tells of a file that comes in no more, unless it is among the newest, which were told.
 fn tell_ended<N: Network + Drop, L: Write + Drop>(
     surroundings: &mut Surroundings<N, L>,
+    step: &LineStep<'_>,
     ended: Ended,
-    label: &Label,
-    came: Came,
-    hub: &Hub,
     arrivals: &mut Arrivals,
     tally: &mut Tally,
 )
@@ -124,23 +146,27 @@ fn tell_ended<N: Network + Drop, L: Write + Drop>(
     ensures now { surroundings.new.now ≡ surroundings.old.now }
     ensures customers { surroundings.new.customers ≡ surroundings.old.customers }
 {
-    let Ended { id, place, file } = ended;
-    match hub.file_summary(id.customer, file) {
-        Some(summary) => {
-            if !came.are_there {
-                arrivals.note(id.customer, file, seconds(surroundings));
-                let event = arrival(summary.state, FileLine::of(&summary));
-                tell_file(surroundings, label, tally, &event);
-            }
-        }
-        None => {
-            if came.files > 0 && !came.are_there {
-                let event = LogEvent::FileLeft(Stream::at(place as u8));
-                tell_file(surroundings, label, tally, &event);
-            } else {
-                tell_file(surroundings, label, tally, &loss_on(hub, id, place));
-            }
-        }
+    if !step.has(ended.file) {
+        tell_file(surroundings, step.label, tally, &step.loss_of(ended));
+    } else if !ended.came.are_there {
+        tell_arrival(surroundings, step, ended.file, arrivals, tally);
+    }
+}
+
+/// Tells of a file that came in, if the line's customer has it, and notes when.
+fn tell_arrival<N: Network + Drop, L: Write + Drop>(
+    surroundings: &mut Surroundings<N, L>,
+    step: &LineStep<'_>,
+    file: FileId,
+    arrivals: &mut Arrivals,
+    tally: &mut Tally,
+)
+    ensures now { surroundings.new.now ≡ surroundings.old.now }
+    ensures customers { surroundings.new.customers ≡ surroundings.old.customers }
+{
+    if let Some(event) = step.arrival_of(file) {
+        arrivals.note(step.id.customer, file, seconds(surroundings));
+        tell_file(surroundings, step.label, tally, &event);
     }
 }
 
@@ -172,20 +198,18 @@ fn seconds<N: Network + Drop, L: Write + Drop>(surroundings: &mut Surroundings<N
 /// Tells of the files that went out, and keeps what is to be told of those that go out now.
 fn tell_going<N: Network + Drop, L: Write + Drop>(
     surroundings: &mut Surroundings<N, L>,
-    id: LineId,
-    label: &Label,
+    step: &LineStep<'_>,
     streams: &mut Streams,
-    hub: &Hub,
 )
     ensures now { surroundings.new.now ≡ surroundings.old.now }
     ensures customers { surroundings.new.customers ≡ surroundings.old.customers }
 {
-    let Ok(senders) = hub.senders(id) else {
+    let Ok(senders) = step.hub.senders(step.id) else {
         return;
     };
     let now = files_going(senders);
     if now != streams.going {
-        tell_gone(surroundings, id.customer, label, streams, &now, hub);
+        tell_gone(surroundings, step, streams, &now);
         streams.going = now;
     }
     streams.ended = ended(senders);
@@ -195,21 +219,20 @@ fn tell_going<N: Network + Drop, L: Write + Drop>(
 /// these.
 fn tell_gone<N: Network + Drop, L: Write + Drop>(
     surroundings: &mut Surroundings<N, L>,
-    customer: u16,
-    label: &Label,
+    step: &LineStep<'_>,
     streams: &mut Streams,
     now: &[Option<FileId>; STREAMS],
-    hub: &Hub,
 )
     ensures now { surroundings.new.now ≡ surroundings.old.now }
     ensures customers { surroundings.new.customers ≡ surroundings.old.customers }
 {
+    let customer = step.id.customer;
     for _ in 0..STREAMS {
         let Some(place) = first_gone(&streams.going, now) else {
             break;
         };
-        if let Some(event) = event_of_gone(hub, customer, streams, place) {
-            tell_file(surroundings, label, &mut streams.tally, &event);
+        if let Some(event) = event_of_gone(step.hub, customer, streams, place) {
+            tell_file(surroundings, step.label, &mut streams.tally, &event);
         }
         streams.going[place] = None;
     }
@@ -217,7 +240,7 @@ fn tell_gone<N: Network + Drop, L: Write + Drop>(
         if let Some(file) = now[place]
             && streams.going[place].is_none()
         {
-            streams.lines[place] = summary_of(hub, customer, file);
+            streams.lines[place] = summary_of(step.hub, customer, file);
         }
     }
 }
@@ -225,21 +248,20 @@ fn tell_gone<N: Network + Drop, L: Write + Drop>(
 /// Tells of a customer that has come near the number of files that it may have.
 fn tell_file_count<N: Network + Drop, L: Write + Drop>(
     surroundings: &mut Surroundings<N, L>,
-    customer: u16,
-    label: &Label,
-    hub: &Hub,
+    step: &LineStep<'_>,
 )
     ensures now { surroundings.new.now ≡ surroundings.old.now }
     ensures customers { surroundings.new.customers ≡ surroundings.old.customers }
 {
-    let files = hub.file_count(customer);
+    let customer = step.id.customer;
+    let files = step.hub.file_count(customer);
     let now = surroundings.now;
     match surroundings
         .customers
         .has_come_near_files(usize::from(customer), files, now)
     {
         Some(most) => {
-            surroundings.tell_of(label.customer, LogEvent::NearFiles(files, most));
+            surroundings.tell_of(step.label.customer, LogEvent::NearFiles(files, most));
         }
         None => {}
     }
@@ -248,14 +270,13 @@ fn tell_file_count<N: Network + Drop, L: Write + Drop>(
 /// Tells of a customer that has come near its quota.
 fn tell_quota<N: Network + Drop, L: Write + Drop>(
     surroundings: &mut Surroundings<N, L>,
-    customer: u16,
-    label: &Label,
-    hub: &Hub,
+    step: &LineStep<'_>,
 )
     ensures now { surroundings.new.now ≡ surroundings.old.now }
     ensures customers { surroundings.new.customers ≡ surroundings.old.customers }
 {
-    let (Ok(used), Ok(quota)) = (hub.used(customer), hub.quota(customer)) else {
+    let customer = step.id.customer;
+    let (Ok(used), Ok(quota)) = (step.hub.used(customer), step.hub.quota(customer)) else {
         return;
     };
     let now = surroundings.now;
@@ -263,16 +284,8 @@ fn tell_quota<N: Network + Drop, L: Write + Drop>(
         .customers
         .has_come_near_quota(customer, used, quota, now)
     {
-        surroundings.tell_of(label.customer, LogEvent::NearQuota(used, quota));
+        surroundings.tell_of(step.label.customer, LogEvent::NearQuota(used, quota));
     }
-}
-
-/// A file that came in on the stream of a place of a line, and comes no more.
-#[derive(Clone, Copy)]
-struct Ended {
-    id: LineId,
-    place: usize,
-    file: FileId,
 }
 
 /// Tells of the commands that a step on a line carried out, if there are some, and counts them: by
