@@ -112,11 +112,13 @@ impl Spool {
         self.customers[usize::from(customer)].arrived
     }
 
-    /// A customer's whole file, by its index in order of arrival.
+    /// A customer's whole file, by its index in order of arrival. No other file of the customer has
+    /// its number, as `quota_holds` says.
     pub fn file_at(&self, customer: u16, index: u32) -> FileId
         requires range { customer < length self.now }
         requires index_range { index < length (spool_at customer self.now).whole }
-        ensures { IsSomeAnd (slice_get (spool_at customer self.now).whole index) (λ f. result ≡ f.number) }
+        ensures number { IsSomeAnd (slice_get (spool_at customer self.now).whole index) (λ f. result ≡ f.number) }
+        ensures sound { IsSound (spool_at customer self.now) }
     {
         FileId::of(
             self.customers[usize::from(customer)]

@@ -27,8 +27,14 @@ at-requires c =
     ap (λ (s : CustomerSpool). length s.whole) (ap (spool_at c.args.customer) (sym c.self.view_is) ∙ has.part) in
     omega (arith, lists, many, c.requires.index_range, length-map (own_at here).whole (whole_file (files_at here)))
 
-pub returns : goal.returns
-returns c =
+pub returns-clause-sound : goal.returns-clause-sound
+returns-clause-sound c =
+    let here = call_on c.self.inside c.args.customer 0 c.self.invariant (rw c.self.view_is c.requires.range) in
+    let has = finds.has here in
+    rw (← c.self.view_is, has.part) has.own.sound
+
+pub returns-clause-number : goal.returns-clause-number
+returns-clause-number c =
     let here = call_on c.self.inside c.args.customer 0 c.self.invariant (rw c.self.view_is c.requires.range) in
     let has = finds.has here in
     let own =

@@ -13,6 +13,6 @@ pub returns : goal.returns
 returns c =
     let here = call_on c.self.inside c.args.customer c.file_at-id.result c.self.invariant
     (rw c.self.view_is c.requires.range) in
-    rw (← c.self.view_is) (summary_is here c.args.index (rw c.self.view_is c.file_at-id.ensures)
+    rw (← c.self.view_is) (summary_is here c.args.index (rw c.self.view_is c.file_at-id.ensures.number)
     ∙ ap (λ (x : FileSlot). Some (slot_summary c.file_at-id.result x)) (sym c.slot_at.ensures)
     ∙ ap Some (sym c.summary.ensures))
