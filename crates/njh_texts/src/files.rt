@@ -11,6 +11,37 @@ use njh_nmr::LONGEST_MESSAGE;
 use njh_record::Kind;
 use njh_spool::State;
 
+/// What is said of a file.
+#[derive(Clone, Copy)]
+pub(crate) struct FileFacts {
+    pub name: Option<FileName>,
+    pub destination: Option<Destination>,
+    pub kind: Kind,
+    pub records: u32,
+    pub state: State,
+}
+
+impl FileFacts {
+    /// Appends what NJH001 says behind its number.
+    #[tactic(auto, unfolding(crate::specs::Texts::file_text))]
+    pub(crate) fn push_onto(self, text: &mut MessageText)
+        requires { length text.old.items + 72 ≤ LONGEST_MESSAGE }
+        ensures text { text.new.items
+            ≡ text.old.items ++ texts.file_text self.name self.destination self.kind self.records self.state }
+        ensures few { length text.new.items ≤ length text.old.items + 72 }
+    {
+        push_name(text, self.name);
+        push_ascii(text, " TO ");
+        push_destination(text, self.destination);
+        push_ascii(text, " ");
+        push_kind(text, self.kind);
+        push_ascii(text, " ");
+        push_digits(text, self.records);
+        push_ascii(text, " RECORDS ");
+        push_state(text, self.state);
+    }
+}
+
 /// What NJH001 says of a file, behind its number: its name, destination, kind, number of records
 /// and state. It leaves out a name or a destination that there isn't.
 #[tactic(auto, unfolding(crate::specs::Texts::file_text))]
@@ -25,33 +56,15 @@ pub fn file_text(
     ensures few { length result.items ≤ 72 }
 {
     let mut text = MessageText::new();
-    push_file_text(&mut text, name, destination, kind, records, state);
+    let file = FileFacts {
+        name,
+        destination,
+        kind,
+        records,
+        state,
+    };
+    file.push_onto(&mut text);
     text
-}
-
-/// Appends the same.
-#[tactic(auto, unfolding(crate::specs::Texts::file_text))]
-pub(crate) fn push_file_text(
-    text: &mut MessageText,
-    name: Option<FileName>,
-    destination: Option<Destination>,
-    kind: Kind,
-    records: u32,
-    state: State,
-)
-    requires { length text.old.items + 72 ≤ LONGEST_MESSAGE }
-    ensures text { text.new.items ≡ text.old.items ++ texts.file_text name destination kind records state }
-    ensures few { length text.new.items ≤ length text.old.items + 72 }
-{
-    push_name(text, name);
-    push_ascii(text, " TO ");
-    push_destination(text, destination);
-    push_ascii(text, " ");
-    push_kind(text, kind);
-    push_ascii(text, " ");
-    push_digits(text, records);
-    push_ascii(text, " RECORDS ");
-    push_state(text, state);
 }
 
 /// Appends a file's name.

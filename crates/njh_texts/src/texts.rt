@@ -3,7 +3,7 @@
 ghost use Rattle.std.specs.Prelude.{◌≡◌};
 ghost use Rattle.njh_texts.specs.Texts as texts;
 
-use crate::files::push_file_text;
+use crate::files::FileFacts;
 use crate::pieces::{MessageText, push_ascii, push_digits, push_file_name, push_trimmed};
 use njh_ebcdic::Name;
 use njh_header::FileName;
@@ -18,14 +18,14 @@ pub fn put_file_line(text: &mut MessageText, file: &FileSummary)
 {
     *text = MessageText::new();
     push_ascii(text, "NJH001 ");
-    push_file_text(
-        text,
-        file.headers.name,
-        file.headers.destination,
-        file.kind,
-        file.records,
-        file.state,
-    );
+    let facts = FileFacts {
+        name: file.headers.name,
+        destination: file.headers.destination,
+        kind: file.kind,
+        records: file.records,
+        state: file.state,
+    };
+    facts.push_onto(text);
 }
 
 /// NJH002: so many files.
