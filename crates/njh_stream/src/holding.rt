@@ -21,7 +21,6 @@ pub fn hold_unrouted(entry: &NamedCustomer, customer: u16, spool: &mut Spool)
         ≡ slice_set spool.old customer (holding.unrouted_held (entry_of entry.now) (spool_at customer spool.old)) }
 {
     for index in 0..spool.files(customer) {
-        spool.quota_holds(customer);
         let file = spool.file_at(customer, index);
         hold_file(entry, customer, file, spool);
     }

@@ -79,7 +79,6 @@ pub fn retry_refused(entry: &NamedCustomer, line: u16, customer: u16, spool: &mu
         ≡ slice_set spool.old customer (sending.tried_again (entry_of entry.now) line (spool_at customer spool.old)) }
 {
     for index in 0..spool.files(customer) {
-        spool.quota_holds(customer);
         let file = spool.file_at(customer, index);
         retry_file(entry, line, customer, file, spool);
     }

@@ -27,8 +27,8 @@ loop-index-preserved c =
     ∙ ap (slice_set c.args.spool.now c.args.customer)
     (one_more_at (may_go_again (entry_of c.args.entry.now) c.args.line) Ready
     (spool_at c.args.customer c.args.spool.now) c.loop-index.index c.file_at-file.result
-    (subst IsSound part_is c.quota_holds.ensures.sound)
+    (subst IsSound part_is c.file_at-file.ensures.sound)
     (subst (λ s. IsSomeAnd (slice_get s.whole c.loop-index.index) (λ f. c.file_at-file.result ≡ f.number)) part_is
-    c.file_at-file.ensures)
+    c.file_at-file.ensures.number)
     ∙ ap (λ n. restated_up_to (may_go_again (entry_of c.args.entry.now) c.args.line) Ready n
     (spool_at c.args.customer c.args.spool.now)) (sym (add-one c.loop-index.index)))
