@@ -24,7 +24,6 @@ pub fn file_at(customer: u16, index: u32, spool: &Spool) -> FileId
         ≡ slice_get (spool_at customer spool.now).whole index }
     ensures number { IsSomeAnd (slice_get (spool_at customer spool.now).whole index) (λ f. result ≡ f.number) }
 {
-    spool.quota_holds(customer);
     spool.file_at(customer, index)
 }
 

@@ -9,6 +9,7 @@ mod filling;
 mod having;
 mod laws;
 mod outgoing;
+mod own_stream;
 mod queues;
 mod record_room;
 mod records;

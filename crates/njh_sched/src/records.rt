@@ -9,6 +9,7 @@ ghost use Rattle.njh_sched.specs.NextBlock.{after_sources, filling};
 ghost use Rattle.njh_sched.specs.code.Filling.{room_of, filling_where};
 
 use crate::outgoing::Outgoing;
+use crate::own_stream::OwnStream;
 use crate::record_room::{PLAIN, add_where_room};
 use njh_block::{BlockWriter, Out, Stream};
 use njh_record::Record;
@@ -36,39 +37,41 @@ pub fn next_served<L: Outgoing>(line: &L) -> Option<Stream>
     None
 }
 
-/// Adds a stream's next record, or its end of file, where it has room. Else the stream stays where
-/// it is.
-fn add_turn<L: Outgoing>(
-    stream: Stream,
-    line: &mut L,
-    customer: u16,
-    spool: &mut Spool,
-    record: &mut Record,
-    writer: &mut BlockWriter,
-) -> bool
-    requires { customer < length spool.old }
-    ensures candidate { after_candidate
-        (Some (serving (L.outlet line.old) (spool_at customer spool.old) stream
-        (next_of (sender_at stream (L.outlet line.old)) (spool_at customer spool.old))))
-        (filling writer.old (L.outlet line.old) (spool_at customer spool.old))
-        ≡ filling_where result writer.new (L.outlet line.new) (spool_at customer spool.old) }
-    ensures spool { spool.new ≡ spool.old }
-    ensures room { IsTrue result → room_of writer.new < room_of writer.old }
-    ensures rest { L.rest line.new ≡ L.rest line.old }
-{
-    let mut sender = line.sender(stream);
-    let srcb = sender.next(customer, spool, record).unwrap_or(PLAIN);
-    let out = Out::Data {
-        rcb: stream.rcb(),
-        srcb,
-        bytes: record,
-    };
-    let has_room = add_where_room(out, writer);
-    if has_room {
-        line.set_sender(stream, sender);
-        line.set_served(stream);
+impl OwnStream {
+    /// Adds the stream's next record, or its end of file, where it has room. Else the stream stays
+    /// where it is.
+    fn add_turn<L: Outgoing>(
+        self,
+        line: &mut L,
+        spool: &mut Spool,
+        record: &mut Record,
+        writer: &mut BlockWriter,
+    ) -> bool
+        requires { self.customer < length spool.old }
+        ensures candidate { after_candidate
+            (Some (serving (L.outlet line.old) (spool_at self.customer spool.old) self.stream
+            (next_of (sender_at self.stream (L.outlet line.old)) (spool_at self.customer spool.old))))
+            (filling writer.old (L.outlet line.old) (spool_at self.customer spool.old))
+            ≡ filling_where result writer.new (L.outlet line.new) (spool_at self.customer spool.old) }
+        ensures spool { spool.new ≡ spool.old }
+        ensures room { IsTrue result → room_of writer.new < room_of writer.old }
+        ensures rest { L.rest line.new ≡ L.rest line.old }
+    {
+        let OwnStream { stream, customer } = self;
+        let mut sender = line.sender(stream);
+        let srcb = sender.next(customer, spool, record).unwrap_or(PLAIN);
+        let out = Out::Data {
+            rcb: stream.rcb(),
+            srcb,
+            bytes: record,
+        };
+        let has_room = add_where_room(out, writer);
+        if has_room {
+            line.set_sender(stream, sender);
+            line.set_served(stream);
+        }
+        has_room
     }
-    has_room
 }
 
 /// Adds records and ends of file of the streams in turn, until one has no room, and says whether
@@ -89,7 +92,8 @@ fn add_all_turns<L: Outgoing>(
     let _some_room = writer.text();
     let mut record = Record::new();
     while let Some(stream) = next_served(line) {
-        if !add_turn(stream, line, customer, spool, &mut record, writer) {
+        let own = OwnStream { stream, customer };
+        if !own.add_turn(line, spool, &mut record, writer) {
             return false;
         }
     }

@@ -12,6 +12,7 @@ ghost use Rattle.njh_sched.specs.code.FileCursor.{GoesOn, IsOver, files_of, goes
 
 use crate::cursor::Cursor;
 use crate::outgoing::Outgoing;
+use crate::own_stream::OwnStream;
 use crate::record_room::add_where_room;
 use njh_block::{BlockWriter, ControlRcb, Out, Stream};
 use njh_spool::{FileId, Spool, State};
@@ -25,34 +26,37 @@ pub fn may_ask<L: Outgoing>(stream: Stream, line: &L) -> bool
     stream.number() < line.streams() && matches!(line.sender(stream), Sender::Idle)
 }
 
-/// A stream asks for a file, where the request has room.
-fn ask<L: Outgoing>(
-    stream: Stream,
-    file: FileId,
-    line: &mut L,
-    customer: u16,
-    spool: &mut Spool,
-    writer: &mut BlockWriter,
-) -> bool
-    requires { customer < length spool.old }
-    ensures candidate { after_candidate (Some (asking (L.outlet line.old) (spool_at customer spool.old) stream file))
-        (filling writer.old (L.outlet line.old) (spool_at customer spool.old))
-        ≡ filling_where result writer.new (L.outlet line.new) (spool_at customer spool.new) }
-    ensures spool { spool.new ≡ slice_set spool.old customer (spool_at customer spool.new) }
-    ensures state { IsTrue result
-        → spool_at customer spool.new ≡ with_state file State.Sending (spool_at customer spool.old) }
-    ensures rest { L.rest line.new ≡ L.rest line.old }
-{
-    let out = Out::Control {
-        rcb: ControlRcb::Request,
-        srcb: stream.rcb().byte,
-    };
-    let has_room = add_where_room(out, writer);
-    if has_room {
-        spool.set_state(customer, file, State::Sending).ok();
-        line.set_sender(stream, Sender::Requested(file));
+impl OwnStream {
+    /// The stream asks for a file, where the request has room.
+    fn ask<L: Outgoing>(
+        self,
+        file: FileId,
+        line: &mut L,
+        spool: &mut Spool,
+        writer: &mut BlockWriter,
+    ) -> bool
+        requires { self.customer < length spool.old }
+        ensures candidate { after_candidate
+            (Some (asking (L.outlet line.old) (spool_at self.customer spool.old) self.stream file))
+            (filling writer.old (L.outlet line.old) (spool_at self.customer spool.old))
+            ≡ filling_where result writer.new (L.outlet line.new) (spool_at self.customer spool.new) }
+        ensures spool { spool.new ≡ slice_set spool.old self.customer (spool_at self.customer spool.new) }
+        ensures state { IsTrue result
+            → spool_at self.customer spool.new ≡ with_state file State.Sending (spool_at self.customer spool.old) }
+        ensures rest { L.rest line.new ≡ L.rest line.old }
+    {
+        let OwnStream { stream, customer } = self;
+        let out = Out::Control {
+            rcb: ControlRcb::Request,
+            srcb: stream.rcb().byte,
+        };
+        let has_room = add_where_room(out, writer);
+        if has_room {
+            spool.set_state(customer, file, State::Sending).ok();
+            line.set_sender(stream, Sender::Requested(file));
+        }
+        has_room
     }
-    has_room
 }
 
 /// A stream asks for its customer's oldest file that is Ready, of its kind, and goes by the line,
@@ -76,7 +80,10 @@ fn add_request<L: Outgoing>(
         return true;
     }
     match cursor.oldest(stream.kind(), spool) {
-        Some(file) => ask(stream, file, line, cursor.id().customer, spool, writer),
+        Some(file) => {
+            let customer = cursor.id().customer;
+            OwnStream { stream, customer }.ask(file, line, spool, writer)
+        }
         None => true,
     }
 }

@@ -4,5 +4,5 @@ use Rattle.njh_sched.proofs.files.file_at.Goals as goal
 
 pub returns-clause-file : goal.returns-clause-file
 returns-clause-file c =
-    file_is (spool_at c.args.customer c.args.spool.now) c.args.index c.file_at.result c.quota_holds.ensures.numbers
-    c.file_at.ensures
+    file_is (spool_at c.args.customer c.args.spool.now) c.args.index c.file_at.result c.file_at.ensures.sound.apart
+    c.file_at.ensures.number

@@ -22,15 +22,15 @@ returns-in-Some-clause-source g c =
     (Some (asking (g.L.Outgoing.outlet c.args.line.now) (spool_at m c.args.spool.now) c.args.stream c.in-Some.file))
     (filling c.args.writer.now (g.L.Outgoing.outlet c.args.line.now) (spool_at m c.args.spool.now))
     ≡ filling_where c.ask.result c.ask.new.writer (g.L.Outgoing.outlet c.ask.new.line) (spool_at m c.ask.new.spool))
-    (ap (λ (i : LineId). i.customer) c.id.ensures
+    (ap (λ (i : LineId). i.customer) c.id-customer.ensures
     ∙ customer_is c.args.cursor.now c.oldest.new.self c.oldest.ensures.cursor.line)
     c.ask.ensures.candidate
 
 pub returns-in-Some-clause-cursor : goal.returns-in-Some-clause-cursor
 returns-in-Some-clause-cursor g c room = record {
   line = c.oldest.ensures.cursor.line;
-  over = sends_one c.oldest.new.self c.id.result.customer c.in-Some.file c.args.spool.now c.ask.new.spool
-      (ap (λ (i : LineId). i.customer) c.id.ensures) c.oldest.ensures.cursor.over c.ask.ensures.spool
+  over = sends_one c.oldest.new.self c.id-customer.result.customer c.in-Some.file c.args.spool.now c.ask.new.spool
+      (ap (λ (i : LineId). i.customer) c.id-customer.ensures) c.oldest.ensures.cursor.over c.ask.ensures.spool
       (c.ask.ensures.state room);
 }
 
