@@ -19,45 +19,39 @@ use njh_texts::{cancelled, not_found};
 pub(crate) fn cancel_files<S: Senders>(
     choice: &Choice,
     spool: &mut Spool,
-    customer: u16,
     senders: &mut S,
     replies: &mut Replies,
 )
-    requires { customer < length spool.old }
+    requires { choice.now.customer < length spool.old }
     ensures replies { replies.new
-        ≡ (cancelling (is_chosen choice.now) choice.now.name (spool_at customer spool.old)).replies }
-    ensures spool { spool.new ≡ slice_set spool.old customer
-        (spool_after (cancelling (is_chosen choice.now) choice.now.name (spool_at customer spool.old))
-        (spool_at customer spool.old)) }
+        ≡ (cancelling (is_chosen choice.now) choice.now.name (spool_at choice.now.customer spool.old)).replies }
+    ensures spool { spool.new ≡ slice_set spool.old choice.now.customer
+        (spool_after (cancelling (is_chosen choice.now) choice.now.name (spool_at choice.now.customer spool.old))
+        (spool_at choice.now.customer spool.old)) }
     ensures senders { senders.new ≡ fold (λ x n. S.each x (without_file n)) senders.old
-        (cancelling (is_chosen choice.now) choice.now.name (spool_at customer spool.old)).cancelled }
+        (cancelling (is_chosen choice.now) choice.now.name (spool_at choice.now.customer spool.old)).cancelled }
 {
-    match cancel_each(choice, spool, customer, senders) {
+    match cancel_each(choice, spool, senders) {
         0 => replies.put_one(not_found(choice.name)),
         count => replies.put_one(cancelled(choice.name, count)),
     }
 }
 
 /// Removes the files in order, and gives how many.
-fn cancel_each<S: Senders>(
-    choice: &Choice,
-    spool: &mut Spool,
-    customer: u16,
-    senders: &mut S,
-) -> u32
-    requires { customer < length spool.old }
-    ensures count { result ≡ count (is_chosen choice.now) (spool_at customer spool.old) }
-    ensures spool { spool.new ≡ slice_set spool.old customer
-        (spool_after (cancelling (is_chosen choice.now) choice.now.name (spool_at customer spool.old))
-        (spool_at customer spool.old)) }
+fn cancel_each<S: Senders>(choice: &Choice, spool: &mut Spool, senders: &mut S) -> u32
+    requires { choice.now.customer < length spool.old }
+    ensures count { result ≡ count (is_chosen choice.now) (spool_at choice.now.customer spool.old) }
+    ensures spool { spool.new ≡ slice_set spool.old choice.now.customer
+        (spool_after (cancelling (is_chosen choice.now) choice.now.name (spool_at choice.now.customer spool.old))
+        (spool_at choice.now.customer spool.old)) }
     ensures senders { senders.new ≡ fold (λ x n. S.each x (without_file n)) senders.old
-        (cancelling (is_chosen choice.now) choice.now.name (spool_at customer spool.old)).cancelled }
+        (cancelling (is_chosen choice.now) choice.now.name (spool_at choice.now.customer spool.old)).cancelled }
 {
     // A file that is removed leaves its place to the one behind it.
     let mut index = 0;
     let mut count = 0;
-    for _ in 0..spool.files(customer) {
-        if cancel_at(choice, spool, customer, index, senders) {
+    for _ in 0..spool.files(choice.customer) {
+        if cancel_at(choice, spool, index, senders) {
             count += 1;
         } else {
             index += 1;
@@ -67,31 +61,25 @@ fn cancel_each<S: Senders>(
 }
 
 /// Removes the file at a place, where it is one of them, and says whether it was.
-fn cancel_at<S: Senders>(
-    choice: &Choice,
-    spool: &mut Spool,
-    customer: u16,
-    index: u32,
-    senders: &mut S,
-) -> bool
-    requires range { customer < length spool.old }
-    requires within { index < length (spool_at customer spool.old).whole }
-    ensures removed { result ≡ is_chosen choice.now (file_at index (spool_at customer spool.old)) }
-    ensures spool { spool.new ≡ slice_set spool.old customer
-        (without_where (is_chosen choice.now (file_at index (spool_at customer spool.old))) index
-        (spool_at customer spool.old)) }
+fn cancel_at<S: Senders>(choice: &Choice, spool: &mut Spool, index: u32, senders: &mut S) -> bool
+    requires range { choice.now.customer < length spool.old }
+    requires within { index < length (spool_at choice.now.customer spool.old).whole }
+    ensures removed { result ≡ is_chosen choice.now (file_at index (spool_at choice.now.customer spool.old)) }
+    ensures spool { spool.new ≡ slice_set spool.old choice.now.customer
+        (without_where (is_chosen choice.now (file_at index (spool_at choice.now.customer spool.old))) index
+        (spool_at choice.now.customer spool.old)) }
     ensures senders { senders.new ≡ fold (λ x n. S.each x (without_file n)) senders.old
-        (numbers_where (is_busy (is_chosen choice.now) (file_at index (spool_at customer spool.old)))
-        (file_at index (spool_at customer spool.old))) }
+        (numbers_where (is_busy (is_chosen choice.now) (file_at index (spool_at choice.now.customer spool.old)))
+        (file_at index (spool_at choice.now.customer spool.old))) }
 {
-    match judge(choice, spool, customer, index) {
+    match judge(choice, spool, index) {
         FileClass::Other => false,
         FileClass::Idle => {
-            remove(spool, customer, index);
+            remove(spool, choice.customer, index);
             true
         }
         FileClass::Busy => {
-            let file = remove(spool, customer, index);
+            let file = remove(spool, choice.customer, index);
             senders.abort(file);
             true
         }

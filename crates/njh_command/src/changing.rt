@@ -49,17 +49,16 @@ pub(crate) fn change_files(
     change: &Change,
     choice: &Choice,
     spool: &mut Spool,
-    customer: u16,
     replies: &mut Replies,
 )
-    requires { customer < length spool.old }
+    requires { choice.now.customer < length spool.old }
     ensures replies { replies.new ≡ change_replies (change_text change.now choice.now.name) choice.now.name
-        (count (may_change (is_chosen choice.now)) (spool_at customer spool.old))
-        (count (is_busy (is_chosen choice.now)) (spool_at customer spool.old)) }
-    ensures spool { spool.new ≡ slice_set spool.old customer
-        (with_changes (is_chosen choice.now) (change_by change.now) (spool_at customer spool.old)) }
+        (count (may_change (is_chosen choice.now)) (spool_at choice.now.customer spool.old))
+        (count (is_busy (is_chosen choice.now)) (spool_at choice.now.customer spool.old)) }
+    ensures spool { spool.new ≡ slice_set spool.old choice.now.customer
+        (with_changes (is_chosen choice.now) (change_by change.now) (spool_at choice.now.customer spool.old)) }
 {
-    let counts = change_each(change, choice, spool, customer);
+    let counts = change_each(change, choice, spool);
     reply_to(change, choice.name, counts, replies);
 }
 
@@ -87,17 +86,17 @@ fn done(change: &Change, name: FileName, count: u32) -> MessageText
 }
 
 /// Changes the files in order.
-fn change_each(change: &Change, choice: &Choice, spool: &mut Spool, customer: u16) -> Counts
-    requires { customer < length spool.old }
-    ensures idle { result.idle ≡ count (may_change (is_chosen choice.now)) (spool_at customer spool.old) }
-    ensures busy { result.busy ≡ count (is_busy (is_chosen choice.now)) (spool_at customer spool.old) }
-    ensures spool { spool.new ≡ slice_set spool.old customer
-        (with_changes (is_chosen choice.now) (change_by change.now) (spool_at customer spool.old)) }
+fn change_each(change: &Change, choice: &Choice, spool: &mut Spool) -> Counts
+    requires { choice.now.customer < length spool.old }
+    ensures idle { result.idle ≡ count (may_change (is_chosen choice.now)) (spool_at choice.now.customer spool.old) }
+    ensures busy { result.busy ≡ count (is_busy (is_chosen choice.now)) (spool_at choice.now.customer spool.old) }
+    ensures spool { spool.new ≡ slice_set spool.old choice.now.customer
+        (with_changes (is_chosen choice.now) (change_by change.now) (spool_at choice.now.customer spool.old)) }
 {
     let mut idle = 0;
     let mut busy = 0;
-    for index in 0..spool.files(customer) {
-        match change_at(change, choice, spool, customer, index) {
+    for index in 0..spool.files(choice.customer) {
+        match change_at(change, choice, spool, index) {
             FileClass::Other => {}
             FileClass::Busy => busy += 1,
             FileClass::Idle => idle += 1,
@@ -107,38 +106,34 @@ fn change_each(change: &Change, choice: &Choice, spool: &mut Spool, customer: u1
 }
 
 /// Changes the file at a place, where it is one of them and isn't being sent.
-fn change_at(
-    change: &Change,
-    choice: &Choice,
-    spool: &mut Spool,
-    customer: u16,
-    index: u32,
-) -> FileClass
-    requires range { customer < length spool.old }
-    requires within { index < length (spool_at customer spool.old).whole }
-    ensures standing { result ≡ file_class_of (is_chosen choice.now) (file_at index (spool_at customer spool.old)) }
-    ensures spool { spool.new ≡ slice_set spool.old customer (with_file index
-        (changed_file (is_chosen choice.now) (change_by change.now) (file_at index (spool_at customer spool.old)))
-        (spool_at customer spool.old)) }
+fn change_at(change: &Change, choice: &Choice, spool: &mut Spool, index: u32) -> FileClass
+    requires range { choice.now.customer < length spool.old }
+    requires within { index < length (spool_at choice.now.customer spool.old).whole }
+    ensures standing { result
+        ≡ file_class_of (is_chosen choice.now) (file_at index (spool_at choice.now.customer spool.old)) }
+    ensures spool { spool.new ≡ slice_set spool.old choice.now.customer (with_file index
+        (changed_file (is_chosen choice.now) (change_by change.now)
+        (file_at index (spool_at choice.now.customer spool.old)))
+        (spool_at choice.now.customer spool.old)) }
 {
-    let standing = judge(choice, spool, customer, index);
+    let standing = judge(choice, spool, index);
     match standing {
-        FileClass::Idle => change_one(change, spool, customer, index),
+        FileClass::Idle => change_one(change, spool, choice.customer, index),
         FileClass::Other | FileClass::Busy => {}
     }
     standing
 }
 
 /// What the file at a place is to a change.
-pub(crate) fn judge(choice: &Choice, spool: &Spool, customer: u16, index: u32) -> FileClass
-    requires range { customer < length spool.now }
-    requires within { index < length (spool_at customer spool.now).whole }
-    ensures { result ≡ file_class_of (is_chosen choice.now) (file_at index (spool_at customer spool.now)) }
+pub(crate) fn judge(choice: &Choice, spool: &Spool, index: u32) -> FileClass
+    requires range { choice.now.customer < length spool.now }
+    requires within { index < length (spool_at choice.now.customer spool.now).whole }
+    ensures { result ≡ file_class_of (is_chosen choice.now) (file_at index (spool_at choice.now.customer spool.now)) }
 {
-    if !is_chosen(choice, spool, customer, index) {
+    if !is_chosen(choice, spool, index) {
         return FileClass::Other;
     }
-    match state_of(spool, customer, index) {
+    match state_of(spool, choice.customer, index) {
         State::Sending => FileClass::Busy,
         State::Ready | State::Held | State::Refused => FileClass::Idle,
     }

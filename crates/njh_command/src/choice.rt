@@ -6,26 +6,27 @@ ghost use Rattle.njh_command.specs.Commands.{is_called, is_owner};
 ghost use Rattle.njh_command.specs.code.Changes.{is_chosen};
 ghost use Rattle.njh_command.specs.Files.{file_at};
 
-use crate::files::summary_of;
 use njh_header::{FileName, User};
 use njh_spool::{FileHeaders, Spool};
 
-/// A user's own files of a name.
+/// A user's own files of a name, of those of a customer.
 #[derive(Clone, Copy, Debug, PartialEq, Eq)]
 pub(crate) struct Choice {
     /// The user who says the command.
     pub(crate) who: User,
     /// The files' name.
     pub(crate) name: FileName,
+    /// The customer on whose line the command came.
+    pub(crate) customer: u16,
 }
 
 /// Whether the file at a place is one of them, by what its headers say.
-pub(crate) fn is_chosen(choice: &Choice, spool: &Spool, customer: u16, index: u32) -> bool
-    requires range { customer < length spool.now }
-    requires within { index < length (spool_at customer spool.now).whole }
-    ensures { result ≡ is_chosen choice.now (file_at index (spool_at customer spool.now)) }
+pub(crate) fn is_chosen(choice: &Choice, spool: &Spool, index: u32) -> bool
+    requires range { choice.now.customer < length spool.now }
+    requires within { index < length (spool_at choice.now.customer spool.now).whole }
+    ensures { result ≡ is_chosen choice.now (file_at index (spool_at choice.now.customer spool.now)) }
 {
-    let headers = summary_of(spool, customer, index).headers;
+    let headers = spool.summary_at(choice.customer, index).headers;
     is_called(choice.name, &headers) && is_owner(choice.who, &headers)
 }
 

@@ -7,13 +7,12 @@ ghost use Rattle.std.specs.Prelude.{IsSomeAnd};
 ghost use Rattle.njh_record.specs.Bytes.{with_field};
 ghost use Rattle.njh_spool.specs.CustomerSpool.{WholeFile, whole_numbered, on_file, without_whole, at_index};
 ghost use Rattle.njh_spool.specs.CustomerSpool.{rewritten_record};
-ghost use Rattle.njh_spool.specs.Headers.{summary};
 ghost use Rattle.njh_spool.specs.Spools.{spool_at};
 ghost use Rattle.njh_command.specs.Commands as commands;
 ghost use Rattle.njh_command.specs.Files.{file_at, stored_at, with_file, with_records, without_at};
 
 use njh_record::{Kind, Record};
-use njh_spool::{FileId, FileSummary, Spool, State};
+use njh_spool::{FileId, Spool, State};
 
 /// The number of the file at a place, which is no other file's.
 pub fn number_of(spool: &Spool, customer: u16, index: u32) -> FileId
@@ -27,7 +26,6 @@ pub fn number_of(spool: &Spool, customer: u16, index: u32) -> FileId
     ensures removed { without_whole result (spool_at customer spool.now)
         ≡ without_at index (spool_at customer spool.now) }
 {
-    spool.quota_holds(customer);
     spool.file_at(customer, index)
 }
 
@@ -59,66 +57,60 @@ pub(crate) fn count_records(spool: &Spool, customer: u16, index: u32) -> u32
     spool.records(customer, file).unwrap_or(0)
 }
 
-/// What is known of the file without a look at its records.
-pub(crate) fn summary_of(spool: &Spool, customer: u16, index: u32) -> FileSummary
-    requires range { customer < length spool.now }
-    requires within { index < length (spool_at customer spool.now).whole }
-    ensures { result ≡ summary (file_at index (spool_at customer spool.now)) }
-{
-    spool.summary_at(customer, index)
+/// A record of a whole file, by the file's place and its own, each from 0 on.
+#[derive(Clone, Copy)]
+pub(crate) struct RecordAt {
+    pub(crate) customer: u16,
+    pub(crate) index: u32,
+    pub(crate) n: u32,
 }
 
-/// Puts the bytes of the file's n-th record in place of what `into` held, and gives its SRCB. The
-/// next record is read on from there.
-pub(crate) fn read_record(
-    spool: &mut Spool,
-    customer: u16,
-    index: u32,
-    n: u32,
-    into: &mut Record,
-) -> u8
-    requires range { customer < length spool.old }
-    requires within { index < length (spool_at customer spool.old).whole }
-    requires known { n < length (file_at index (spool_at customer spool.old)).records }
-    ensures record { slice_get (file_at index (spool_at customer spool.old)).records n
-        ≡ Some (record { srcb = result; bytes = into.new.items }) }
-    ensures same { spool.new ≡ spool.old }
-{
-    let file = number_of(spool, customer, index);
-    spool.read_on(customer, file, n, into).unwrap_or(0)
-}
+impl RecordAt {
+    /// Puts its bytes in place of what `into` held, and gives its SRCB. The next record is read on
+    /// from there.
+    pub(crate) fn read(self, spool: &mut Spool, into: &mut Record) -> u8
+        requires range { self.customer < length spool.old }
+        requires within { self.index < length (spool_at self.customer spool.old).whole }
+        requires known { self.n < length (file_at self.index (spool_at self.customer spool.old)).records }
+        ensures record { slice_get (file_at self.index (spool_at self.customer spool.old)).records self.n
+            ≡ Some (record { srcb = result; bytes = into.new.items }) }
+        ensures same { spool.new ≡ spool.old }
+    {
+        let file = number_of(spool, self.customer, self.index);
+        spool
+            .read_on(self.customer, file, self.n, into)
+            .unwrap_or(0)
+    }
 
-/// The SRCB of the file's n-th record. The next record is read on from there.
-pub(crate) fn read_srcb(spool: &mut Spool, customer: u16, index: u32, n: u32) -> u8
-    requires range { customer < length spool.old }
-    requires within { index < length (spool_at customer spool.old).whole }
-    requires known { n < length (file_at index (spool_at customer spool.old)).records }
-    ensures srcb { result ≡ (stored_at n (file_at index (spool_at customer spool.old)).records).srcb }
-    ensures same { spool.new ≡ spool.old }
-{
-    let file = number_of(spool, customer, index);
-    spool.srcb_on(customer, file, n).unwrap_or(0)
-}
+    /// Its SRCB. The next record is read on from there.
+    pub(crate) fn read_srcb(self, spool: &mut Spool) -> u8
+        requires range { self.customer < length spool.old }
+        requires within { self.index < length (spool_at self.customer spool.old).whole }
+        requires known { self.n < length (file_at self.index (spool_at self.customer spool.old)).records }
+        ensures srcb { result
+            ≡ (stored_at self.n (file_at self.index (spool_at self.customer spool.old)).records).srcb }
+        ensures same { spool.new ≡ spool.old }
+    {
+        let file = number_of(spool, self.customer, self.index);
+        spool.srcb_on(self.customer, file, self.n).unwrap_or(0)
+    }
 
-/// Writes eight bytes over those from a place on of the file's n-th record.
-pub(crate) fn rewrite_record(
-    spool: &mut Spool,
-    customer: u16,
-    index: u32,
-    n: u32,
-    place: usize,
-    bytes: [u8; 8],
-)
-    requires range { customer < length spool.old }
-    requires within { index < length (spool_at customer spool.old).whole }
-    requires field { IsSomeAnd (slice_get (file_at index (spool_at customer spool.old)).records n)
-        (λ r. place + 8 ≤ length r.bytes) }
-    ensures { spool.new ≡ slice_set spool.old customer (with_file index
-        (with_records (at_index n (rewritten_record place bytes) (file_at index (spool_at customer spool.old)).records)
-        (file_at index (spool_at customer spool.old))) (spool_at customer spool.old)) }
-{
-    let file = number_of(spool, customer, index);
-    spool.rewrite(customer, file, n, place, bytes).ok();
+    /// Writes eight bytes over its own from a place on.
+    pub(crate) fn rewrite(self, spool: &mut Spool, place: usize, bytes: [u8; 8])
+        requires range { self.customer < length spool.old }
+        requires within { self.index < length (spool_at self.customer spool.old).whole }
+        requires field { IsSomeAnd (slice_get (file_at self.index (spool_at self.customer spool.old)).records self.n)
+            (λ r. place + 8 ≤ length r.bytes) }
+        ensures { spool.new ≡ slice_set spool.old self.customer (with_file self.index (with_records
+            (at_index self.n (rewritten_record place bytes)
+            (file_at self.index (spool_at self.customer spool.old)).records)
+            (file_at self.index (spool_at self.customer spool.old))) (spool_at self.customer spool.old)) }
+    {
+        let file = number_of(spool, self.customer, self.index);
+        spool
+            .rewrite(self.customer, file, self.n, place, bytes)
+            .ok();
+    }
 }
 
 pub(crate) fn set_state(spool: &mut Spool, customer: u16, index: u32, state: State)

@@ -7,7 +7,6 @@ ghost use Rattle.njh_command.specs.Files.{file_at};
 ghost use Rattle.njh_texts.specs.Texts.{file_line};
 
 use crate::choice::is_owner;
-use crate::files::summary_of;
 use crate::replies::Replies;
 use njh_header::User;
 use njh_spool::Spool;
@@ -36,7 +35,7 @@ fn list_file(who: User, spool: &Spool, customer: u16, index: u32, replies: &mut 
     ensures replies { replies.new ≡ cond (is_owned who (file_at index (spool_at customer spool.now)))
         (first_replies (replies.old ++ file_line (file_at index (spool_at customer spool.now)) ∷ [])) replies.old }
 {
-    let file = summary_of(spool, customer, index);
+    let file = spool.summary_at(customer, index);
     let is_own = is_owner(who, &file.headers);
     if is_own {
         replies.add_file(&file);

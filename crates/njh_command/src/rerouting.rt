@@ -7,9 +7,7 @@ ghost use Rattle.njh_command.specs.Commands.{with_new_destination, state_after_r
 ghost use Rattle.njh_command.specs.code.Looking.{looked_at, may_name};
 ghost use Rattle.njh_command.specs.Files.{file_at, stored_at, with_file, with_records, with_redirected};
 
-use crate::files::{
-    count_records, kind_of, read_record, read_srcb, rewrite_record, set_state, state_of,
-};
+use crate::files::{RecordAt, count_records, kind_of, set_state, state_of};
 use njh_ebcdic::Name;
 use njh_header::{destination_place, srcb};
 use njh_record::{Kind, Record};
@@ -49,7 +47,8 @@ fn redirect(node: Name, spool: &mut Spool, customer: u16, index: u32)
     let to = Redirection { kind, node };
     let mut before = None;
     for n in 0..count_looked_at(kind, spool, customer, index) {
-        before = Some(redirect_by_srcb(&to, before, spool, customer, index, n));
+        let at = RecordAt { customer, index, n };
+        before = Some(redirect_by_srcb(&to, before, spool, at));
     }
 }
 
@@ -66,28 +65,21 @@ fn count_looked_at(kind: Kind, spool: &Spool, customer: u16, index: u32) -> u32
     }
 }
 
-/// The n-th record of the file at a place names another node, where it names one. It gives the
-/// record's SRCB, and reads the record itself only where its SRCB is that of such a header.
-fn redirect_by_srcb(
-    to: &Redirection,
-    before: Option<u8>,
-    spool: &mut Spool,
-    customer: u16,
-    index: u32,
-    n: u32,
-) -> u8
-    requires range { customer < length spool.old }
-    requires within { index < length (spool_at customer spool.old).whole }
-    requires known { n < length (file_at index (spool_at customer spool.old)).records }
-    ensures srcb { result ≡ (stored_at n (file_at index (spool_at customer spool.old)).records).srcb }
-    ensures spool { spool.new ≡ slice_set spool.old customer (with_file index
-        (with_records (with_redirected to.now.kind before to.now.node n
-        (file_at index (spool_at customer spool.old)).records)
-        (file_at index (spool_at customer spool.old))) (spool_at customer spool.old)) }
+/// A record names another node, where it names one. It gives the record's SRCB, and reads the
+/// record itself only where its SRCB is that of such a header.
+fn redirect_by_srcb(to: &Redirection, before: Option<u8>, spool: &mut Spool, at: RecordAt) -> u8
+    requires range { at.customer < length spool.old }
+    requires within { at.index < length (spool_at at.customer spool.old).whole }
+    requires known { at.n < length (file_at at.index (spool_at at.customer spool.old)).records }
+    ensures srcb { result ≡ (stored_at at.n (file_at at.index (spool_at at.customer spool.old)).records).srcb }
+    ensures spool { spool.new ≡ slice_set spool.old at.customer (with_file at.index
+        (with_records (with_redirected to.now.kind before to.now.node at.n
+        (file_at at.index (spool_at at.customer spool.old)).records)
+        (file_at at.index (spool_at at.customer spool.old))) (spool_at at.customer spool.old)) }
 {
-    let srcb = read_srcb(spool, customer, index, n);
+    let srcb = at.read_srcb(spool);
     if may_name_node(to.kind, before, srcb) {
-        redirect_record(to, before, spool, customer, index, n);
+        redirect_record(to, before, spool, at);
     }
     srcb
 }
@@ -103,27 +95,20 @@ fn may_name_node(kind: Kind, before: Option<u8>, srcb: u8) -> bool
     }
 }
 
-/// The n-th record of the file at a place names another node, where it names one.
-fn redirect_record(
-    to: &Redirection,
-    before: Option<u8>,
-    spool: &mut Spool,
-    customer: u16,
-    index: u32,
-    n: u32,
-)
-    requires range { customer < length spool.old }
-    requires within { index < length (spool_at customer spool.old).whole }
-    requires known { n < length (file_at index (spool_at customer spool.old)).records }
-    ensures spool { spool.new ≡ slice_set spool.old customer (with_file index
-        (with_records (with_redirected to.now.kind before to.now.node n
-        (file_at index (spool_at customer spool.old)).records)
-        (file_at index (spool_at customer spool.old))) (spool_at customer spool.old)) }
+/// A record names another node, where it names one.
+fn redirect_record(to: &Redirection, before: Option<u8>, spool: &mut Spool, at: RecordAt)
+    requires range { at.customer < length spool.old }
+    requires within { at.index < length (spool_at at.customer spool.old).whole }
+    requires known { at.n < length (file_at at.index (spool_at at.customer spool.old)).records }
+    ensures spool { spool.new ≡ slice_set spool.old at.customer (with_file at.index
+        (with_records (with_redirected to.now.kind before to.now.node at.n
+        (file_at at.index (spool_at at.customer spool.old)).records)
+        (file_at at.index (spool_at at.customer spool.old))) (spool_at at.customer spool.old)) }
 {
     let mut record = Record::new();
-    let srcb = read_record(spool, customer, index, n, &mut record);
+    let srcb = at.read(spool, &mut record);
     if let Some(place) = destination_place(to.kind, before, srcb, &record) {
-        rewrite_record(spool, customer, index, n, place, to.node.bytes());
+        at.rewrite(spool, place, to.node.bytes());
     }
 }
 

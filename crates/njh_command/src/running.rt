@@ -85,29 +85,47 @@ pub fn run<S: Senders>(
         Command::Hold(name) => {
             change_files(
                 &Change::Hold,
-                &Choice { who, name },
+                &Choice {
+                    who,
+                    name,
+                    customer,
+                },
                 spool,
-                customer,
                 replies,
             )
         }
         Command::Release(name) => {
             change_files(
                 &Change::Release,
-                &Choice { who, name },
+                &Choice {
+                    who,
+                    name,
+                    customer,
+                },
                 spool,
-                customer,
                 replies,
             )
         }
         Command::Cancel(name) => {
-            cancel_files(&Choice { who, name }, spool, customer, senders, replies)
+            cancel_files(
+                &Choice {
+                    who,
+                    name,
+                    customer,
+                },
+                spool,
+                senders,
+                replies,
+            )
         }
         Command::Reroute(name, node) => {
             reroute_files(
-                &Choice { who, name },
+                &Choice {
+                    who,
+                    name,
+                    customer,
+                },
                 node,
-                customer,
                 tables,
                 spool,
                 replies,
@@ -120,50 +138,50 @@ pub fn run<S: Senders>(
 fn reroute_files(
     choice: &Choice,
     node: Name,
-    customer: u16,
     tables: &Tables,
     spool: &mut Spool,
     replies: &mut Replies,
 )
-    requires known { customer < length tables.now.customers }
-    requires range { customer < length spool.old }
+    requires known { choice.now.customer < length tables.now.customers }
+    requires range { choice.now.customer < length spool.old }
     ensures replies { replies.new
-        ≡ (rerouted_by (entry_of (customer_at tables.now customer)) node choice.now.who choice.now.name
-        (spool_at customer spool.old)).replies }
-    ensures spool { spool.new ≡ slice_set spool.old customer
-        (spool_after (rerouted_by (entry_of (customer_at tables.now customer)) node choice.now.who choice.now.name
-        (spool_at customer spool.old)) (spool_at customer spool.old)) }
+        ≡ (rerouted_by (entry_of (customer_at tables.now choice.now.customer)) node choice.now.who choice.now.name
+        (spool_at choice.now.customer spool.old)).replies }
+    ensures spool { spool.new ≡ slice_set spool.old choice.now.customer
+        (spool_after (rerouted_by (entry_of (customer_at tables.now choice.now.customer)) node choice.now.who
+        choice.now.name (spool_at choice.now.customer spool.old)) (spool_at choice.now.customer spool.old)) }
 {
-    match tables.route(customer, node) {
+    match tables.route(choice.customer, node) {
         Route::Here => {
-            let hub = tables.customer(customer).hub();
-            refused(choice, no_files_for(hub), spool, customer, replies)
+            let hub = tables.customer(choice.customer).hub();
+            refused(choice, no_files_for(hub), spool, replies)
         }
-        Route::Line(_) => { change_files(&Change::Reroute(node), choice, spool, customer, replies) }
-        Route::Unknown => refused(choice, node_unknown(node), spool, customer, replies),
+        Route::Line(_) => change_files(&Change::Reroute(node), choice, spool, replies),
+        Route::Unknown => refused(choice, node_unknown(node), spool, replies),
     }
 }
 
 /// Why the files don't go there, or that there are none.
-fn refused(choice: &Choice, text: MessageText, spool: &Spool, customer: u16, replies: &mut Replies)
-    requires { customer < length spool.now }
+fn refused(choice: &Choice, text: MessageText, spool: &Spool, replies: &mut Replies)
+    requires { choice.now.customer < length spool.now }
     ensures { replies.new
-        ≡ where_found (count (is_chosen choice.now) (spool_at customer spool.now)) choice.now.name (text.items ∷ []) }
+        ≡ where_found (count (is_chosen choice.now) (spool_at choice.now.customer spool.now)) choice.now.name
+        (text.items ∷ []) }
 {
-    match count_files(choice, spool, customer) {
+    match count_files(choice, spool) {
         0 => replies.put_one(not_found(choice.name)),
         _ => replies.put_one(text),
     }
 }
 
 /// How many files there are of them.
-fn count_files(choice: &Choice, spool: &Spool, customer: u16) -> u32
-    requires { customer < length spool.now }
-    ensures { result ≡ count (is_chosen choice.now) (spool_at customer spool.now) }
+fn count_files(choice: &Choice, spool: &Spool) -> u32
+    requires { choice.now.customer < length spool.now }
+    ensures { result ≡ count (is_chosen choice.now) (spool_at choice.now.customer spool.now) }
 {
     let mut count = 0;
-    for index in 0..spool.files(customer) {
-        if is_chosen(choice, spool, customer, index) {
+    for index in 0..spool.files(choice.customer) {
+        if is_chosen(choice, spool, index) {
             count += 1;
         }
     }

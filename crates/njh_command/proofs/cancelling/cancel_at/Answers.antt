@@ -15,10 +15,10 @@ none true true e = absurd (cc e)
 
 pub returns-in-Other-clause-spool : goal.returns-in-Other-clause-spool
 returns-in-Other-clause-spool g c =
-    unmoved c.args.spool.now c.args.customer
-    ∙ ap (λ b. slice_set c.args.spool.now c.args.customer
-    (without_where b c.args.index (spool_at c.args.customer c.args.spool.now)))
+    unmoved c.args.spool.now c.args.choice.now.customer
+    ∙ ap (λ b. slice_set c.args.spool.now c.args.choice.now.customer
+    (without_where b c.args.index (spool_at c.args.choice.now.customer c.args.spool.now)))
     (sym (none (is_of_name c.args.choice.now.who c.args.choice.now.name
-    (file_at c.args.index (spool_at c.args.customer c.args.spool.now)))
-    (is_sending (file_at c.args.index (spool_at c.args.customer c.args.spool.now)).state)
+    (file_at c.args.index (spool_at c.args.choice.now.customer c.args.spool.now)))
+    (is_sending (file_at c.args.index (spool_at c.args.choice.now.customer c.args.spool.now)).state)
     (sym c.in-Other.is ∙ c.judge.ensures)))

@@ -14,7 +14,7 @@ use Rattle.njh_command.proofs.cancelling.cancel_each.Goals as goal
 
 pub loop-preserved : goal.loop-preserved
 loop-preserved g c =
-    let s = spool_at c.args.customer c.args.spool.now in
+    let s = spool_at c.args.choice.now.customer c.args.spool.now in
     let p = is_of_name c.args.choice.now.who c.args.choice.now.name in
     let i = c.loop.counter in
     let n = c.loop.index in
@@ -23,15 +23,17 @@ loop-preserved g c =
     let left : CustomerSpool = removed_up_to p i s in
     let there : file_at n left ≡ f = ap (λ (m : ℕ). file_at m left) c.loop.invariant.index
     ∙ removed_not_yet p i s inside in
-    let here : file_at n (spool_at c.args.customer c.loop.spool) ≡ f =
-    ap (file_at n) (part_of c.args.spool.now c.loop.spool c.args.customer left c.requires c.loop.invariant.spool)
+    let here : file_at n (spool_at c.args.choice.now.customer c.loop.spool) ≡ f =
+    ap (file_at n)
+    (part_of c.args.spool.now c.loop.spool c.args.choice.now.customer left c.requires c.loop.invariant.spool)
     ∙ there in
     let removed : c.cancel_at.result ≡ p f = c.cancel_at.ensures.removed ∙ ap p here in
-    let spool : c.cancel_at.new.spool ≡ slice_set c.args.spool.now c.args.customer (removed_up_to p (i + 1) s) =
-    moved_twice c.args.spool.now c.loop.spool c.cancel_at.new.spool c.args.customer left
+    let spool : c.cancel_at.new.spool
+    ≡ slice_set c.args.spool.now c.args.choice.now.customer (removed_up_to p (i + 1) s) =
+    moved_twice c.args.spool.now c.loop.spool c.cancel_at.new.spool c.args.choice.now.customer left
     (λ (x : CustomerSpool). without_where (p (file_at n x)) n x) c.requires c.loop.invariant.spool
     c.cancel_at.ensures.spool
-    ∙ ap (slice_set c.args.spool.now c.args.customer)
+    ∙ ap (slice_set c.args.spool.now c.args.choice.now.customer)
     (ap₂ (λ (m : ℕ) (y : WholeFile). without_where (p y) m left) c.loop.invariant.index there
     ∙ removed_one_more p i s inside) in
     let senders =
@@ -77,7 +79,7 @@ loop-preserved g c =
 
 pub returns-clause-senders : goal.returns-clause-senders
 returns-clause-senders g c =
-    let s = spool_at c.args.customer c.args.spool.now in
+    let s = spool_at c.args.choice.now.customer c.args.spool.now in
     let all : length s.whole ≤ c.loop.counter =
     subst (λ (m : ℕ). m ≤ c.loop.counter) c.files-end.ensures c.loop-test.false in
     c.loop.invariant.senders

@@ -7,15 +7,16 @@ use Rattle.njh_command.proofs.cancelling.cancel_each.Given as goal
 abbrev pub invariant-loop : goal.invariant-loop
 invariant-loop g l = record {
   index : l.index ≡ length (left_up_to (is_of_name l.choice.who l.choice.name) l.counter
-      (spool_at l.customer l.initial.spool));
-  count : l.count ≡ count_up_to (is_of_name l.choice.who l.choice.name) l.counter (spool_at l.customer l.initial.spool);
+      (spool_at l.choice.customer l.initial.spool));
+  count : l.count
+      ≡ count_up_to (is_of_name l.choice.who l.choice.name) l.counter (spool_at l.choice.customer l.initial.spool);
   few : l.index + l.count ≤ l.counter;
   spool : l.spool
-      ≡ slice_set l.initial.spool l.customer
-      (removed_up_to (is_of_name l.choice.who l.choice.name) l.counter (spool_at l.customer
+      ≡ slice_set l.initial.spool l.choice.customer
+      (removed_up_to (is_of_name l.choice.who l.choice.name) l.counter (spool_at l.choice.customer
       l.initial.spool));
   senders : l.senders
       ≡ fold (λ x n. g.S.Senders.each x (without_file n)) l.initial.senders
       (map (λ f. f.number) (filter (is_busy (is_of_name l.choice.who l.choice.name))
-      (take l.counter (spool_at l.customer l.initial.spool).whole)));
+      (take l.counter (spool_at l.choice.customer l.initial.spool).whole)));
 }

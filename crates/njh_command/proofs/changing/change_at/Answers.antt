@@ -10,7 +10,7 @@ use Rattle.njh_command.proofs.changing.change_at.Goals as goal
 
 pub returns-in-Other : goal.returns-in-Other
 returns-in-Other c =
-    let s = spool_at c.args.customer c.args.spool.now in
+    let s = spool_at c.args.choice.now.customer c.args.spool.now in
     let f : WholeFile = file_at c.args.index s in
     let p = is_of_name c.args.choice.now.who c.args.choice.now.name in
     let idle : may_change p f ≡ false = elim c.in-Other.is [
@@ -20,8 +20,8 @@ returns-in-Other c =
     record {
       standing = c.judge-standing.ensures;
       spool =
-          unmoved c.args.spool.now c.args.customer
-          ∙ ap (slice_set c.args.spool.now c.args.customer)
+          unmoved c.args.spool.now c.args.choice.now.customer
+          ∙ ap (slice_set c.args.spool.now c.args.choice.now.customer)
           (same_file s c.args.index ∙ ap (λ (x : WholeFile). with_file c.args.index x s)
           (unchanged p (change_by c.args.change.now) f
           idle));

@@ -13,23 +13,25 @@ use Rattle.njh_command.proofs.changing.change_each.Goals as goal
 
 pub loop-index-preserved : goal.loop-index-preserved
 loop-index-preserved c =
-    let s = spool_at c.args.customer c.args.spool.now in
+    let s = spool_at c.args.choice.now.customer c.args.spool.now in
     let p = is_of_name c.args.choice.now.who c.args.choice.now.name in
     let g : WholeFile → WholeFile = changed_file p (change_by c.args.change.now) in
     let i = c.loop-index.index in
     let f : WholeFile = file_at i s in
     let inside : i < length s.whole = subst (λ (m : ℕ). i < m) c.files-index-end.ensures c.loop-index-test.true in
-    let now_is : spool_at c.args.customer c.loop-index.spool ≡ changed_up_to g i s =
-    part_of c.args.spool.now c.loop-index.spool c.args.customer (changed_up_to g i s) c.requires
+    let now_is : spool_at c.args.choice.now.customer c.loop-index.spool ≡ changed_up_to g i s =
+    part_of c.args.spool.now c.loop-index.spool c.args.choice.now.customer (changed_up_to g i s) c.requires
     c.loop-index.invariant.spool in
-    let here : file_at i (spool_at c.args.customer c.loop-index.spool) ≡ f =
+    let here : file_at i (spool_at c.args.choice.now.customer c.loop-index.spool) ≡ f =
     ap (file_at i) now_is ∙ changed_not_yet g i s inside in
     let standing : c.change_at.result ≡ file_class_of p f = c.change_at.ensures.standing ∙ ap (file_class_of p) here in
-    let spool : c.change_at.new.spool ≡ slice_set c.args.spool.now c.args.customer (changed_up_to g (i + 1) s) =
-    moved_twice c.args.spool.now c.loop-index.spool c.change_at.new.spool c.args.customer (changed_up_to g i s)
+    let spool : c.change_at.new.spool
+    ≡ slice_set c.args.spool.now c.args.choice.now.customer (changed_up_to g (i + 1) s) =
+    moved_twice c.args.spool.now c.loop-index.spool c.change_at.new.spool c.args.choice.now.customer
+    (changed_up_to g i s)
     (λ (x : CustomerSpool). with_file i (g (file_at i x)) x) c.requires c.loop-index.invariant.spool
     c.change_at.ensures.spool
-    ∙ ap (slice_set c.args.spool.now c.args.customer) (changed_one_more g i s inside) in
+    ∙ ap (slice_set c.args.spool.now c.args.choice.now.customer) (changed_one_more g i s inside) in
     elim c.match-change_at.branch [
       | in-Other w ↦
           let is = as_other (p f) (is_sending f.state) (sym standing ∙ w.in-Other.is) in

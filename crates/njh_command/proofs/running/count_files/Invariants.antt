@@ -6,6 +6,6 @@ use Rattle.njh_command.proofs.running.count_files.Given as goal
 
 abbrev pub invariant-loop-index : goal.invariant-loop-index
 invariant-loop-index l = record {
-  count : l.count ≡ count_up_to (is_of_name l.choice.who l.choice.name) l.index (spool_at l.customer l.spool);
+  count : l.count ≡ count_up_to (is_of_name l.choice.who l.choice.name) l.index (spool_at l.choice.customer l.spool);
   few : l.count ≤ l.index;
 }
