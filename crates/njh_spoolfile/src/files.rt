@@ -14,7 +14,7 @@ ghost use Rattle.njh_spoolfile.specs.CommitState.{Stands};
 ghost use Rattle.njh_spoolfile.specs.Shelf.{shown};
 ghost use Rattle.njh_spoolfile.specs.Steps.{IsIdle};
 
-use crate::opening::{OpenFault, is_live, prepare};
+use crate::opening::{OpenFault, prepare};
 use crate::store::Store;
 use sqlite::{Alter, Connection, Error, FileFrom, FileStore, Start};
 use sqlite_disk::Disk;
@@ -33,10 +33,7 @@ fn connect<S: Start>(
 {
     match Connection::open_from(rt, path, true, start) {
         Ok(conn) => Ok(conn),
-        Err((error, left)) => {
-            drop(left);
-            Err(error)
-        }
+        Err((error, _)) => Err(error),
     }
 }
 
@@ -47,16 +44,9 @@ fn spool_of<S: Alter + Drop>(alloc: Global, conn: Connection<S>) -> Result<Store
     ensures works { IfOk result (λ store. store.failed ≡ false) }
 {
     let mut conn = conn;
-    match prepare(alloc, &mut conn) {
-        Ok(()) => {
-            is_live(&conn);
-            Ok(Store::over(conn))
-        }
-        Err(fault) => {
-            drop(conn);
-            Err(fault)
-        }
-    }
+    prepare(alloc, &mut conn)?;
+    let _schema = conn.schema();
+    Ok(Store::over(conn))
 }
 
 /// The spool of a database that was opened, where it was. It names no type of a store, since each

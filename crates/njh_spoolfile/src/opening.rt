@@ -36,13 +36,6 @@ impl From<Error> for OpenFault {
     }
 }
 
-/// While a connection is open, its tables are sound.
-pub(crate) fn is_live<S: Alter>(conn: &Connection<S>)
-    ensures { IsLive (state S.Store conn.now) }
-{
-    let _schema = conn.schema();
-}
-
 fn test_tables<S: Alter>(alloc: Global, conn: &Connection<S>) -> Result<bool, Error>
     ensures live { IsLive (state S.Store conn.now) }
     ensures same { IfOk result (λ same. IsTrue same ↔ ((state S.Store conn.now).now.schema ≡ spool_schema)) }

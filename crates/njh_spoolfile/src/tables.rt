@@ -110,29 +110,40 @@ fn has_place(table: &Table, name: &str, tree: u32) -> bool
     table.name.as_slice() == name.as_bytes() && table.tree == tree
 }
 
-fn is_table(
-    alloc: Global,
-    table: &Table,
-    name: &str,
+/// A table by its name, its tree, the column of its key, and its other columns.
+#[derive(Drop)]
+struct TableShape<'a> {
+    name: &'a str,
     tree: u32,
-    id: &str,
-    wanted: &[(&str, Kind)],
-) -> Result<bool, AllocError>
-    ensures { IfOk result (λ same. IsTrue same ↔ (table.now ≡ keyed name.now tree (id_column id.now ∷ map
-        (λ w. value_column w.0.now w.1) wanted.now))) }
-{
-    let plain = is_plain(alloc, table)?;
-    Ok(
-        plain
-            && has_place(table, name, tree)
-            && are_columns_after(table.columns.as_slice(), id, wanted),
-    )
+    id: &'a str,
+    columns: &'a [(&'a str, Kind)],
+}
+
+impl TableShape<'_> {
+    /// Whether a table is this one, and nothing more.
+    fn is_of(&self, alloc: Global, table: &Table) -> Result<bool, AllocError>
+        ensures { IfOk result (λ same. IsTrue same ↔ (table.now ≡ keyed self.now.name.now self.now.tree
+            (id_column self.now.id.now ∷ map (λ w. value_column w.0.now w.1) self.now.columns.now))) }
+    {
+        let plain = is_plain(alloc, table)?;
+        Ok(
+            plain
+                && has_place(table, self.name, self.tree)
+                && are_columns_after(table.columns.as_slice(), self.id, self.columns),
+        )
+    }
 }
 
 fn is_spool_table(alloc: Global, table: &Table) -> Result<bool, AllocError>
     ensures { IfOk result (λ same. IsTrue same ↔ (table.now ≡ spool_table)) }
 {
-    is_table(alloc, table, "spool", 0, "version", &[])
+    let spool = TableShape {
+        name: "spool",
+        tree: 0,
+        id: "version",
+        columns: &[],
+    };
+    spool.is_of(alloc, table)
 }
 
 fn is_files_table(alloc: Global, table: &Table) -> Result<bool, AllocError>
@@ -153,7 +164,13 @@ fn is_files_table(alloc: Global, table: &Table) -> Result<bool, AllocError>
         ("blocks", Kind::Integer),
         ("came", Kind::Integer),
     ];
-    is_table(alloc, table, "files", 1, "id", &columns)
+    let files = TableShape {
+        name: "files",
+        tree: 1,
+        id: "id",
+        columns: &columns,
+    };
+    files.is_of(alloc, table)
 }
 
 fn is_records_table(alloc: Global, table: &Table) -> Result<bool, AllocError>
@@ -165,7 +182,13 @@ fn is_records_table(alloc: Global, table: &Table) -> Result<bool, AllocError>
         ("srcb", Kind::Integer),
         ("bytes", Kind::Blob),
     ];
-    is_table(alloc, table, "records", 2, "id", &columns)
+    let records = TableShape {
+        name: "records",
+        tree: 2,
+        id: "id",
+        columns: &columns,
+    };
+    records.is_of(alloc, table)
 }
 
 fn are_spool_tables(alloc: Global, tables: &[Table]) -> Result<bool, AllocError>
