@@ -25,6 +25,23 @@ struct NamedRoute<'a> {
     second: Option<&'a str>,
 }
 
+/// The names that routes of a customer go by: its hub's node, and its own lines among all lines.
+#[derive(Drop)]
+struct OwnNames<'a> {
+    customer: u16,
+    hub: Name,
+    owners: &'a Owners,
+}
+
+impl OwnNames<'_> {
+    /// The number of the customer's line of this name.
+    fn line(&self, name: &str) -> Option<u16>
+        ensures { result ≡ own_line self.now.owners.now self.now.customer name.now }
+    {
+        self.owners.own_line(self.customer, name)
+    }
+}
+
 /// Whether the customer's hub and its routes so far say where a node goes.
 fn is_routed(hub: Name, routes: &Routes, node: Name) -> bool
     ensures { result ≡ is_routed hub routes.now node }
@@ -39,15 +56,15 @@ fn is_routed(hub: Name, routes: &Routes, node: Name) -> bool
 fn number_of_second(
     part: Part,
     second: Option<&str>,
-    customer: u16,
-    owners: &Owners,
+    own: &OwnNames<'_>,
 ) -> Result<Option<u16>, PlacedFault>
-    ensures { result ≡ number_of_second part (own_line owners.now customer) (option_map (λ s. s.now) second.entry) }
+    ensures { result ≡ number_of_second part (own_line own.now.owners.now own.now.customer)
+        (option_map (λ s. s.now) second.entry) }
 {
     let Some(name) = second else {
         return Ok(None);
     };
-    match owners.own_line(customer, name) {
+    match own.line(name) {
         Some(number) => Ok(Some(number)),
         None => Err(part.fault_at(Key::Second, TableFault::UnknownLine)),
     }
@@ -58,24 +75,22 @@ fn number_of_second(
 fn route_by(
     part: Part,
     named: NamedRoute<'_>,
-    customer: u16,
-    hub: Name,
-    owners: &Owners,
+    own: &OwnNames<'_>,
     routes: &Routes,
 ) -> Result<(Name, RouteLines), PlacedFault>
     ensures walk { result_map_both route_entry (λ f. f) result
-        ≡ route_by part hub (own_line owners.now customer) routes.now named.entry.node named.entry.line.now
-        (option_map (λ s. s.now) named.entry.second) }
+        ≡ route_by part own.now.hub (own_line own.now.owners.now own.now.customer) routes.now named.entry.node
+        named.entry.line.now (option_map (λ s. s.now) named.entry.second) }
     ensures new { IfOk result (λ r. lines_to routes.now r.0 ≡ None) }
 {
     let NamedRoute { node, line, second } = named;
-    if is_routed(hub, routes, node) {
+    if is_routed(own.hub, routes, node) {
         return Err(part.fault_at(Key::Node, TableFault::DoubleNode));
     }
-    let Some(line) = owners.own_line(customer, line) else {
+    let Some(line) = own.line(line) else {
         return Err(part.fault_at(Key::Line, TableFault::UnknownLine));
     };
-    let second = number_of_second(part, second, customer, owners)?;
+    let second = number_of_second(part, second, own)?;
     Ok((node, RouteLines { line, second }))
 }
 
@@ -84,13 +99,11 @@ fn route_by(
 fn next_route(
     part: Part,
     value: &Value,
-    customer: u16,
-    hub: Name,
-    owners: &Owners,
+    own: &OwnNames<'_>,
     routes: &Routes,
 ) -> Result<(Name, RouteLines), PlacedFault>
     ensures walk { result_map_both route_entry (λ f. f) result
-        ≡ next_route part hub (own_line owners.now customer) routes.now (view value.now) }
+        ≡ next_route part own.now.hub (own_line own.now.owners.now own.now.customer) routes.now (view value.now) }
     ensures new { IfOk result (λ r. lines_to routes.now r.0 ≡ None) }
 {
     if routes.len() >= MAX_ROUTES {
@@ -101,7 +114,7 @@ fn next_route(
     let line = text_at(keys, part, Key::Line)?;
     let second = second_at(keys, part, Key::Second, line)?;
     let named = NamedRoute { node, line, second };
-    route_by(part, named, customer, hub, owners, routes)
+    route_by(part, named, own, routes)
 }
 
 pub(super) fn routes_in(
@@ -114,10 +127,15 @@ pub(super) fn routes_in(
     ensures { Walks (λ r. r) result
         (routes_onto customer hub (own_line owners.now customer) [] (items_view values.now)) }
 {
+    let own = OwnNames {
+        customer,
+        hub,
+        owners,
+    };
     let mut routes = Routes::new(alloc);
     for value in values {
         let part = Part::Route(customer as usize, routes.len());
-        let (node, lines) = next_route(part, value, customer, hub, owners, &routes)?;
+        let (node, lines) = next_route(part, value, &own, &routes)?;
         routes.insert(node, lines)?;
     }
     Ok(routes)
