@@ -1,5 +1,7 @@
 //! How many nodal messages came and went on a line, for its operator. No step depends on it.
 
+ghost use Rattle.std.specs.Prelude.{◌≡◌};
+
 /// How many nodal messages came and went on a line since it was made. Nothing is said of it in a
 /// clause: it is what people are shown. Each count stays at the greatest `u64`.
 #[derive(Clone, Copy, Debug, PartialEq, Eq)]
@@ -14,7 +16,9 @@ pub struct MessageCounts {
 
 impl MessageCounts {
     /// None came, went or was dropped.
-    pub fn none() -> MessageCounts {
+    pub fn none() -> MessageCounts
+        ensures { result ≡ record { came = 0; sent = 0; dropped = 0 } }
+    {
         MessageCounts {
             came: 0,
             sent: 0,
