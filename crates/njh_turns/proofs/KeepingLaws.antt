@@ -1,6 +1,6 @@
 -- What is kept, and what a crash may leave: a keeper that follows steps, settles, and is called again.
 use Rattle.std.proofs.Common.{◌≡◌, ℕ, ◌<◌, ◌≤◌, List, [], length, set, Result, Ok, Err, ap, ◌∙◌, arith, inl}
-use Rattle.std.specs.Prelude.{OnOk, OnErr}
+use Rattle.std.specs.Prelude.{IsErr, OnOk, OnErr}
 use Rattle.std.proofs.lemmas.List.{get_or-map, length-set}
 use Rattle.njh_hub.specs.Sent.{IsCounted}
 use Rattle.njh_hub.specs.WholeHub.{Part, no_part, hub_run}
@@ -93,6 +93,14 @@ follows_ill says keeper new_keeper e parts no_more counts counted = record {
   counted = counted;
 }
 
+pub follows_refused : {K A E : Type 0} (says : KeeperSays K)
+    (keeper new_keeper : K) (r : Result A E) → IsErr r → (parts : List Part) → LeavesNoMore says keeper new_keeper →
+    says.count keeper ≤ says.count new_keeper → IsCounted (says.count keeper) (says.count new_keeper) →
+    Follows {K = K} {A = A} {E = E} says keeper r parts new_keeper
+follows_refused says keeper new_keeper (Ok x) is parts no_more counts counted = cc
+follows_refused says keeper new_keeper (Err e) is parts no_more counts counted =
+    follows_ill says keeper new_keeper e parts no_more counts counted
+
 -- ---- rounds
 
 -- all went well
@@ -117,6 +125,14 @@ keeps_ill says keeper new_keeper e parts counts counted = record {
   counts = counts;
   counted = counted;
 }
+
+pub keeps_refused : {K A E : Type 0} (says : KeeperSays K)
+    (keeper new_keeper : K) (r : Result A E) → IsErr r → (parts : List Part) →
+    says.count keeper ≤ says.count new_keeper → IsCounted (says.count keeper) (says.count new_keeper) →
+    Keeps {K = K} {A = A} {E = E} says keeper r parts new_keeper
+keeps_refused says keeper new_keeper (Ok x) is parts counts counted = cc
+keeps_refused says keeper new_keeper (Err e) is parts counts counted =
+    keeps_ill says keeper new_keeper e parts counts counted
 
 -- it followed turns, and then it was to settle
 pub keeps_settled : {K A E : Type 0} (says : KeeperSays K) (keeper mid new_keeper : K) (result : Result A E)

@@ -86,10 +86,7 @@ impl Rounds {
         ensures same { self.new.lines ≡ self.old.lines }
         ensures lines { SameLines hub.old hub.new }
     {
-        match self.visit(hub, keeper, wires, attendant) {
-            Ok(()) => {}
-            Err(fault) => return Err(fault),
-        }
+        self.visit(hub, keeper, wires, attendant)?;
         keeper.settle()
     }
 
@@ -121,10 +118,7 @@ impl Rounds {
             if !attendant.is_due(i) {
                 continue;
             }
-            match self.take_turn(i, hub, keeper, &mut wires[i], attendant) {
-                Ok(()) => {}
-                Err(fault) => return Err(fault),
-            }
+            self.take_turn(i, hub, keeper, &mut wires[i], attendant)?;
         }
         Ok(())
     }
@@ -159,10 +153,7 @@ impl Rounds {
         ensures lines { SameLines hub.old hub.new }
     {
         let visit = self.visit_at(place, hub, attendant);
-        match wire_turn(visit, hub, keeper, attendant, wire, &mut self.room) {
-            Ok(quiets) => self.quiets[place] = quiets,
-            Err(fault) => return Err(fault),
-        }
+        self.quiets[place] = wire_turn(visit, hub, keeper, attendant, wire, &mut self.room)?;
         Ok(())
     }
 

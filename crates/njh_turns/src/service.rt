@@ -51,18 +51,9 @@ pub fn attend<W: Wire, K: Keeper, A: Attendant<W>>(
             return Ok(());
         }
         attendant.before(wires);
-        match give_routes(hub, keeper, attendant) {
-            Ok(()) => {}
-            Err(fault) => return Err(fault),
-        }
-        match give_order(hub, keeper, attendant) {
-            Ok(()) => {}
-            Err(fault) => return Err(fault),
-        }
-        match rounds.take_due(hub, keeper, wires, attendant) {
-            Ok(()) => {}
-            Err(fault) => return Err(fault),
-        }
+        give_routes(hub, keeper, attendant)?;
+        give_order(hub, keeper, attendant)?;
+        rounds.take_due(hub, keeper, wires, attendant)?;
         attendant.after(hub, wires);
     }
     Ok(())
@@ -108,10 +99,8 @@ fn give<W: Wire, K: Keeper, A: Attendant<W>>(
     ensures keeps { Keeps K.says keeper.old result hub.new keeper.new }
     ensures lines { SameLines hub.old hub.new }
 {
-    match set_kept(hub, keeper, new) {
-        Ok(answer) => attendant.routes_given(hub, new, answer),
-        Err(fault) => return Err(fault),
-    }
+    let answer = set_kept(hub, keeper, new)?;
+    attendant.routes_given(hub, new, answer);
     Ok(())
 }
 
@@ -133,10 +122,8 @@ fn set_kept<K: Keeper>(
         Ok(()) => {}
         Err(fault) => return Ok(Err(fault)),
     }
-    match keep(hub, keeper, new.customer) {
-        Ok(()) => Ok(Ok(())),
-        Err(fault) => Err(fault),
-    }
+    keep(hub, keeper, new.customer)?;
+    Ok(Ok(()))
 }
 
 /// Does what is ordered for a customer, where the attendant brings an order, and keeps what it
@@ -180,10 +167,8 @@ fn carry_out<W: Wire, K: Keeper, A: Attendant<W>>(
     ensures lines { SameLines hub.old hub.new }
 {
     let mut replies = Replies::new();
-    match order_kept(hub, keeper, new, &mut replies) {
-        Ok(answer) => attendant.order_done(hub, new, answer, &replies),
-        Err(fault) => return Err(fault),
-    }
+    let answer = order_kept(hub, keeper, new, &mut replies)?;
+    attendant.order_done(hub, new, answer, &replies);
     Ok(())
 }
 
@@ -207,10 +192,8 @@ fn order_kept<K: Keeper>(
         Ok(()) => {}
         Err(fault) => return Ok(Err(fault)),
     }
-    match keep(hub, keeper, new.customer) {
-        Ok(()) => Ok(Ok(())),
-        Err(fault) => Err(fault),
-    }
+    keep(hub, keeper, new.customer)?;
+    Ok(Ok(()))
 }
 
 /// Keeps what new routes of a customer, or an order for it, made of its files.
@@ -220,9 +203,6 @@ fn keep<K: Keeper>(hub: &Hub, keeper: &mut K, customer: u16) -> Result<(), KeepF
         OnErr result (LeavesEither (K.says.may_leave keeper.new) before hub.now) }
     ensures keeps { Keeps K.says keeper.old result hub.now keeper.new }
 {
-    match keeper.follow(hub, customer) {
-        Ok(()) => {}
-        Err(fault) => return Err(fault),
-    }
+    keeper.follow(hub, customer)?;
     keeper.settle()
 }

@@ -164,10 +164,7 @@ pub fn wire_turn<W: Wire, K: Keeper, A: Attendant<W>>(
         quiet: visit.quiet,
     };
     let quiets = quiets_behind(answer);
-    match act_on(answer, hub, keeper, attendant, wire, &mut room.out) {
-        Ok(()) => {}
-        Err(fault) => return Err(fault),
-    }
+    act_on(answer, hub, keeper, attendant, wire, &mut room.out)?;
     Ok(quiets)
 }
 
@@ -277,10 +274,7 @@ fn pass_bytes<W: Wire, K: Keeper, A: Attendant<W>>(
     while taken < piece.len() {
         let (_, left) = piece.split_at(taken);
         let used = take_bytes(hub, at.line, left, out);
-        match follow(at, hub, keeper, attendant, out) {
-            Ok(()) => {}
-            Err(fault) => return Err(fault),
-        }
+        follow(at, hub, keeper, attendant, out)?;
         taken += used;
         match send(wire, out) {
             Ok(()) => {}
@@ -317,10 +311,7 @@ fn pass_signal<W: Wire, K: Keeper, A: Attendant<W>>(
 {
     let LineSignal { at, signal } = given;
     take_signal(hub, at.line, signal, out);
-    match follow(at, hub, keeper, attendant, out) {
-        Ok(()) => {}
-        Err(fault) => return Err(fault),
-    }
+    follow(at, hub, keeper, attendant, out)?;
     match send(wire, out) {
         Ok(()) => Ok(()),
         Err(_) => lose(at, hub, keeper, attendant, out),
@@ -369,10 +360,7 @@ fn follow<W: Wire, K: Keeper, A: Attendant<W>>(
     ensures untold { OnErr result (attendant.new ≡ attendant.old) }
     ensures asked { A.stands attendant.new in_round }
 {
-    match keeper.follow(hub, at.line.customer) {
-        Ok(()) => {}
-        Err(fault) => return Err(fault),
-    }
+    keeper.follow(hub, at.line.customer)?;
     attendant.stepped(at.place, hub, frame);
     Ok(())
 }
@@ -389,10 +377,7 @@ fn take_bytes(hub: &mut Hub, id: LineId, piece: &[u8], out: &mut Vec<u8>) -> usi
         IsTaken hub.old id t.after t.frame hub.new out.new }
 {
     out.clear();
-    match hub.take(id, piece, out) {
-        Ok(taken) => taken,
-        Err(_) => unreachable!(),
-    }
+    hub.take(id, piece, out).unwrap()
 }
 
 /// A step by a signal, in the room that `out` has.
@@ -403,10 +388,7 @@ fn take_signal(hub: &mut Hub, id: LineId, signal: Signal, out: &mut Vec<u8>)
         IsTaken hub.old id t.after t.frame hub.new out.new }
 {
     out.clear();
-    match hub.signal(id, signal, out) {
-        Ok(()) => {}
-        Err(_) => unreachable!(),
-    }
+    hub.signal(id, signal, out).unwrap();
 }
 
 /// Writes the frame of a step, where one was sent.

@@ -10,7 +10,7 @@ use Rattle.njh_turns.specs.Service.{Round, service_rounds}
 use Rattle.njh_turns.specs.Turns.{Turn, IsRound, hub_wires, moment}
 use Rattle.njh_turns.proofs.ServiceLaws.{at_first, at_still, at_given, at_round, rounds-with_given, rounds-with_round}
 use Rattle.njh_turns.proofs.ServiceLaws.{with_given, attended_at, attended_in}
-use Rattle.njh_turns.proofs.KeepingLaws.{keeps_ill, keeps_well}
+use Rattle.njh_turns.proofs.KeepingLaws.{keeps_refused, keeps_well, on_err}
 use Rattle.njh_turns.proofs.service.attend.Goals as goal
 
 pub loop-turn-init : goal.loop-turn-init
@@ -35,9 +35,9 @@ loop-turn-preserved g c =
     let more = g.met.W.Wire.more in
     let lines_is : c.loop-turn.rounds.lines ≡ c.args.rounds.now.lines = c.loop-turn.invariant.lines in
     let story = c.loop-turn.invariant.story.0 in
-    let routes = c.in-Ok.ensures.given in
-    let order = c.in-Ok-give_order.ensures.given in
-    let round = c.in-Ok-take_due.ensures.round in
+    let routes = c.in_ok-give_routes.ensures.given in
+    let order = c.in_ok-give_order.ensures.given in
+    let round = c.in_ok-take_due.ensures.round in
     let routed = with_given story routes.0 in
     let told = with_given routed order.0 in
     let before = at_still c.before-in-loop-turn.new.wires c.loop-turn.invariant.story.2 more
@@ -65,72 +65,78 @@ loop-turn-preserved g c =
       same = λ d. c.take_due.ensures.lines d ∙ c.give_order.ensures.lines d ∙ c.give_routes.ensures.lines d
           ∙ c.loop-turn.invariant.same d;
       rests = c.after.ensures.rests;
-      settled = c.in-Ok-take_due.ensures.keeps.settled;
-      kept = c.in-Ok-take_due.ensures.keeps.faultless ∙ c.in-Ok-give_order.ensures.keeps.faultless
-          ∙ c.in-Ok.ensures.keeps.faultless ∙ c.loop-turn.invariant.kept;
+      settled = c.in_ok-take_due.ensures.keeps.settled;
+      kept = c.in_ok-take_due.ensures.keeps.faultless ∙ c.in_ok-give_order.ensures.keeps.faultless
+          ∙ c.in_ok-give_routes.ensures.keeps.faultless ∙ c.loop-turn.invariant.kept;
     }
 
 -- ---- the keeper failed where a customer was given new routes
 
-pub returns-in-Err-clause-breaks : goal.returns-in-Err-clause-breaks
-returns-in-Err-clause-breaks g c =
+pub returns-in_err-give_routes-clause-breaks : goal.returns-in_err-give_routes-clause-breaks
+returns-in_err-give_routes-clause-breaks g c =
     let so_far = c.loop-turn.invariant.story in
-    let broke = c.in-Err.ensures.breaks in
-    record {
+    let broke = c.in_err-give_routes.ensures.breaks in
+    on_err c.from_residual.result (record {
       rounds = c.loop-turn.turn;
       fewer = c.loop-turn-test.true;
       mid = moment c.loop-turn.hub c.loop-turn.rounds.quiets c.before-in-loop-turn.new.wires;
       attended = attended_at (at_still c.before-in-loop-turn.new.wires so_far.2 g.met.W.Wire.more
           (omega (arith, c.requires.same)) c.before-in-loop-turn.ensures.still) so_far.1;
       breaks = inl (broke.0, broke.1, broke.2, refl);
-    }
+    })
 
-pub returns-in-Err-clause-keeps : goal.returns-in-Err-clause-keeps
-returns-in-Err-clause-keeps g c =
-    keeps_ill g.K.Keeper.says c.args.keeper.now c.give_routes.new.keeper
-    c.in-Err.fault c.give_routes.new.hub
-    (omega (arith, c.loop-turn.invariant.kept, c.in-Err.ensures.keeps.counts))
-    (counted_from _ _ _ (omega (arith, c.loop-turn.invariant.kept)) c.in-Err.ensures.keeps.counted)
+pub returns-in_err-give_routes-clause-keeps : goal.returns-in_err-give_routes-clause-keeps
+returns-in_err-give_routes-clause-keeps g c =
+    keeps_refused g.K.Keeper.says c.args.keeper.now c.give_routes.new.keeper
+    c.from_residual.result c.from_residual.ensures.0 c.give_routes.new.hub
+    (omega (arith, c.loop-turn.invariant.kept, c.in_err-give_routes.ensures.keeps.counts))
+    (counted_from _ _ _ (omega (arith, c.loop-turn.invariant.kept)) c.in_err-give_routes.ensures.keeps.counted)
 
-pub returns-in-Err-clause-lines : goal.returns-in-Err-clause-lines
-returns-in-Err-clause-lines g c = λ d. c.in-Err.ensures.lines d ∙ c.loop-turn.invariant.same d
+pub returns-in_err-give_routes-clause-lines : goal.returns-in_err-give_routes-clause-lines
+returns-in_err-give_routes-clause-lines g c = λ d. c.in_err-give_routes.ensures.lines d ∙ c.loop-turn.invariant.same d
 
 -- ---- it failed where a customer was given an order
 
-pub returns-in-Err-give_order-clause-breaks : goal.returns-in-Err-give_order-clause-breaks
-returns-in-Err-give_order-clause-breaks g c =
+pub returns-in_err-give_order-clause-breaks : goal.returns-in_err-give_order-clause-breaks
+returns-in_err-give_order-clause-breaks g c =
     let so_far = c.loop-turn.invariant.story in
-    let routes = c.in-Ok.ensures.given in
-    let broke = c.in-Err-give_order.ensures.breaks in
+    let routes = c.in_ok-give_routes.ensures.given in
+    let broke = c.in_err-give_order.ensures.breaks in
     let before = at_still c.before-in-loop-turn.new.wires so_far.2 g.met.W.Wire.more (omega (arith, c.requires.same))
     c.before-in-loop-turn.ensures.still in
-    record {
+    on_err c.from_residual-in_err-give_order.result (record {
       rounds = c.loop-turn.turn;
       fewer = c.loop-turn-test.true;
       mid = moment c.give_routes.new.hub c.loop-turn.rounds.quiets c.before-in-loop-turn.new.wires;
       attended = attended_at (at_given routes.0 c.give_routes.new.hub before routes.1 routes.2)
           (ap (λ (rs : List (List Turn)). length rs) (rounds-with_given so_far.0 routes.0) ∙ so_far.1);
       breaks = inl (broke.0, broke.1, broke.2, refl);
-    }
+    })
 
-pub returns-in-Err-give_order-clause-keeps : goal.returns-in-Err-give_order-clause-keeps
-returns-in-Err-give_order-clause-keeps g c =
-    keeps_ill g.K.Keeper.says c.args.keeper.now c.give_order.new.keeper c.in-Err-give_order.fault c.give_order.new.hub
-    (omega (arith, c.loop-turn.invariant.kept, c.in-Ok.ensures.keeps.counts, c.in-Err-give_order.ensures.keeps.counts))
-    (counted_from _ _ _ (omega (arith, c.loop-turn.invariant.kept, c.in-Ok.ensures.keeps.faultless))
-    c.in-Err-give_order.ensures.keeps.counted)
+pub returns-in_err-give_order-clause-keeps : goal.returns-in_err-give_order-clause-keeps
+returns-in_err-give_order-clause-keeps g c =
+    keeps_refused g.K.Keeper.says c.args.keeper.now c.give_order.new.keeper
+    c.from_residual-in_err-give_order.result c.from_residual-in_err-give_order.ensures.0 c.give_order.new.hub
+    (omega (
+      arith,
+      c.loop-turn.invariant.kept,
+      c.in_ok-give_routes.ensures.keeps.counts,
+      c.in_err-give_order.ensures.keeps.counts,
+    ))
+    (counted_from _ _ _ (omega (arith, c.loop-turn.invariant.kept, c.in_ok-give_routes.ensures.keeps.faultless))
+    c.in_err-give_order.ensures.keeps.counted)
 
-pub returns-in-Err-give_order-clause-lines : goal.returns-in-Err-give_order-clause-lines
-returns-in-Err-give_order-clause-lines g c = λ d.
-    c.in-Err-give_order.ensures.lines d ∙ c.give_routes.ensures.lines d ∙ c.loop-turn.invariant.same d
+pub returns-in_err-give_order-clause-lines : goal.returns-in_err-give_order-clause-lines
+returns-in_err-give_order-clause-lines g c = λ d.
+    c.in_err-give_order.ensures.lines d ∙ c.give_routes.ensures.lines d ∙ c.loop-turn.invariant.same d
 
 -- ---- it failed in a round
 
-pub returns-in-Err-take_due-clause-breaks : goal.returns-in-Err-take_due-clause-breaks
-returns-in-Err-take_due-clause-breaks g c =
+pub returns-in_err-take_due-clause-breaks : goal.returns-in_err-take_due-clause-breaks
+returns-in_err-take_due-clause-breaks g c =
     let so_far = c.loop-turn.invariant.story in
-    let routes = c.in-Ok.ensures.given in
-    let order = c.in-Ok-give_order.ensures.given in
+    let routes = c.in_ok-give_routes.ensures.given in
+    let order = c.in_ok-give_order.ensures.given in
     let routed = with_given so_far.0 routes.0 in
     let mid = moment c.give_order.new.hub c.loop-turn.rounds.quiets c.before-in-loop-turn.new.wires in
     let before = at_still c.before-in-loop-turn.new.wires so_far.2 g.met.W.Wire.more (omega (arith, c.requires.same))
@@ -138,41 +144,41 @@ returns-in-Err-take_due-clause-breaks g c =
     let with_routes = at_given routes.0 c.give_routes.new.hub before routes.1 routes.2 in
     let P : List LineId → Type 0 = λ ls. RoundBreaks g.W.Wire.says (g.K.Keeper.says.may_leave c.take_due.new.keeper) ls
     mid (hub_wires c.take_due.new.hub c.take_due.new.wires) in
-    record {
+    on_err c.from_residual-in_err-take_due.result (record {
       rounds = c.loop-turn.turn;
       fewer = c.loop-turn-test.true;
       mid = mid;
       attended = attended_at (at_given order.0 c.give_order.new.hub with_routes order.1 order.2)
           (ap (λ (rs : List (List Turn)). length rs)
           (rounds-with_given routed order.0 ∙ rounds-with_given so_far.0 routes.0) ∙ so_far.1);
-      breaks = inr (subst P c.loop-turn.invariant.lines c.in-Err-take_due.ensures.breaks);
-    }
+      breaks = inr (subst P c.loop-turn.invariant.lines c.in_err-take_due.ensures.breaks);
+    })
 
-pub returns-in-Err-take_due-clause-keeps : goal.returns-in-Err-take_due-clause-keeps
-returns-in-Err-take_due-clause-keeps g c =
-    keeps_ill g.K.Keeper.says c.args.keeper.now c.take_due.new.keeper
-    c.in-Err-take_due.fault c.take_due.new.hub
+pub returns-in_err-take_due-clause-keeps : goal.returns-in_err-take_due-clause-keeps
+returns-in_err-take_due-clause-keeps g c =
+    keeps_refused g.K.Keeper.says c.args.keeper.now c.take_due.new.keeper
+    c.from_residual-in_err-take_due.result c.from_residual-in_err-take_due.ensures.0 c.take_due.new.hub
     (omega (
       arith,
       c.loop-turn.invariant.kept,
-      c.in-Ok.ensures.keeps.counts,
-      c.in-Ok-give_order.ensures.keeps.counts,
-      c.in-Err-take_due.ensures.keeps.counts,
+      c.in_ok-give_routes.ensures.keeps.counts,
+      c.in_ok-give_order.ensures.keeps.counts,
+      c.in_err-take_due.ensures.keeps.counts,
     ))
     (counted_from _ _ _ (omega (
       arith,
       c.loop-turn.invariant.kept,
-      c.in-Ok.ensures.keeps.faultless,
-      c.in-Ok-give_order.ensures.keeps.faultless,
+      c.in_ok-give_routes.ensures.keeps.faultless,
+      c.in_ok-give_order.ensures.keeps.faultless,
     ))
-    c.in-Err-take_due.ensures.keeps.counted)
+    c.in_err-take_due.ensures.keeps.counted)
 
-pub returns-in-Err-take_due-clause-same : goal.returns-in-Err-take_due-clause-same
-returns-in-Err-take_due-clause-same g c = c.in-Err-take_due.ensures.same ∙ c.loop-turn.invariant.lines
+pub returns-in_err-take_due-clause-same : goal.returns-in_err-take_due-clause-same
+returns-in_err-take_due-clause-same g c = c.in_err-take_due.ensures.same ∙ c.loop-turn.invariant.lines
 
-pub returns-in-Err-take_due-clause-lines : goal.returns-in-Err-take_due-clause-lines
-returns-in-Err-take_due-clause-lines g c = λ d.
-    c.in-Err-take_due.ensures.lines d ∙ c.give_order.ensures.lines d ∙ c.give_routes.ensures.lines d
+pub returns-in_err-take_due-clause-lines : goal.returns-in_err-take_due-clause-lines
+returns-in_err-take_due-clause-lines g c = λ d.
+    c.in_err-take_due.ensures.lines d ∙ c.give_order.ensures.lines d ∙ c.give_routes.ensures.lines d
     ∙ c.loop-turn.invariant.same d
 
 -- ---- the attendant ends it

@@ -4,20 +4,21 @@ use Rattle.njh_hub.specs.declared.event.Event.TheVariants.{Routes}
 use Rattle.njh_turns.specs.Keeping.{by_routes}
 use Rattle.njh_turns.specs.Service.{WasGiven}
 use Rattle.njh_turns.proofs.ServiceLaws as laws
+use Rattle.njh_turns.proofs.KeepingLaws.{on_err}
 use Rattle.njh_turns.proofs.service.set_kept.Goals as goal
 
 pub keep-requires : goal.keep-requires
 keep-requires g c = record { led = (c.args.hub.now, c.requires.settled, (_, by_routes _ refl, c.in-Ok.ensures.hub)) }
 
-pub returns-in-Ok-keep-clause-given : goal.returns-in-Ok-keep-clause-given
-returns-in-Ok-keep-clause-given g c =
+pub returns-clause-given : goal.returns-clause-given
+returns-clause-given g c =
     let did = c.in-Ok.ensures in
     laws.was_given (laws.by_routes c.args.hub.now c.set_routes.new.self c.args.new.now.customer c.routes.result.now
     did.hub did.known did.checked)
 
 -- the customer was given just the routes that were brought
-pub returns-in-Ok-keep-clause-answered : goal.returns-in-Ok-keep-clause-answered
-returns-in-Ok-keep-clause-answered g c =
+pub returns-clause-answered : goal.returns-clause-answered
+returns-clause-answered g c =
     let did = c.in-Ok.ensures in
     let customer = c.args.new.now.customer in record {
       given = subst
@@ -30,12 +31,12 @@ returns-in-Ok-keep-clause-answered g c =
 
 -- ---- the keeper failed
 
-pub returns-in-Err-keep-clause-breaks : goal.returns-in-Err-keep-clause-breaks
-returns-in-Err-keep-clause-breaks g c =
+pub returns-in_err-keep-clause-breaks : goal.returns-in_err-keep-clause-breaks
+returns-in_err-keep-clause-breaks g c =
     let did = c.in-Ok.ensures in
-    laws.given_break (laws.by_routes c.args.hub.now c.set_routes.new.self c.args.new.now.customer c.routes.result.now
-    did.hub did.known did.checked)
-    (c.in-Err-keep.ensures.left c.args.hub.now c.requires.settled (_, by_routes _ refl, c.in-Ok.ensures.hub))
+    on_err c.from_residual.result (laws.given_break (laws.by_routes c.args.hub.now c.set_routes.new.self
+    c.args.new.now.customer c.routes.result.now did.hub did.known did.checked)
+    (c.in_err-keep.ensures.left c.args.hub.now c.requires.settled (_, by_routes _ refl, c.in-Ok.ensures.hub)))
 
 -- ---- the routes were refused
 

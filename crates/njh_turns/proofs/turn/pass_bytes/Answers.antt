@@ -9,7 +9,7 @@ use Rattle.njh_turns.specs.Breaks.{AtStep, AtLoss}
 use Rattle.njh_turns.specs.Keeping.{by_bytes}
 use Rattle.njh_turns.specs.Wires.{WireAct, Unsent, sent_act, frame_acts}
 use Rattle.njh_turns.proofs.BreakLaws.{bytes_break, bytes_unsent, loss_breaks}
-use Rattle.njh_turns.proofs.KeepingLaws.{follows_ill, follows_on, follows_well, no_more_then, on_err, on_ok}
+use Rattle.njh_turns.proofs.KeepingLaws.{follows_on, follows_refused, follows_well, no_more_then, on_err, on_ok}
 use Rattle.njh_turns.proofs.WireLaws.{step_written}
 use Rattle.njh_turns.proofs.turn.pass_bytes.Goals as goal
 
@@ -66,7 +66,7 @@ loop-taken-preserved g c =
       frame_is = did.frame;
     } in
     let F : List ℕ → Type 0 = λ b. g.W.Wire.says.passed c.loop-taken.wire c.send.new.wire (frame_acts b) in
-    let sent = subst F c.deref-in-loop-taken.ensures.value c.in-Ok-send.ensures.ok in
+    let sent = subst F c.deref-in-loop-taken.ensures.value c.in-Ok.ensures.ok in
     let before = map sent_act (after_bytes start id (take c.loop-taken.taken c.args.arrival.piece.now)).sent in
     let frame = c.take_bytes-used.new.out.items in
     let acts = g.met.W.Wire.more c.args.wire.now c.loop-taken.wire c.send.new.wire before (frame_acts frame)
@@ -78,20 +78,103 @@ loop-taken-preserved g c =
       acts = subst P (sym (step_written step)) acts;
       same = λ d. did.lines d ∙ c.loop-taken.invariant.same d;
       seen = λ some. subst (λ (b : List ℕ). g.A.Attendant.saw c.follow.new.attendant c.args.arrival.at.place
-          c.take_bytes-used.new.hub b) c.deref.ensures.value c.in-Ok.ensures.seen;
+          c.take_bytes-used.new.hub b) c.deref.ensures.value c.in_ok-follow.ensures.seen;
       asked = c.follow.ensures.asked;
       room = did.room;
-      counts = omega (arith, c.loop-taken.invariant.counts, c.in-Ok-send.ensures.counts);
+      counts = omega (arith, c.loop-taken.invariant.counts, c.in-Ok.ensures.counts);
       withheld = g.met.W.Wire.withheld_more c.args.wire.now c.loop-taken.wire c.send.new.wire
           c.loop-taken.invariant.withheld
-          c.in-Ok-send.ensures.withheld;
-      knows = c.in-Ok.ensures.known;
+          c.in-Ok.ensures.withheld;
+      knows = c.in_ok-follow.ensures.known;
       leaves = no_more_then g.K.Keeper.says c.args.keeper.now c.loop-taken.keeper c.follow.new.keeper
-          c.loop-taken.invariant.leaves c.in-Ok.ensures.leaves;
-      kept = c.in-Ok.ensures.faultless ∙ c.loop-taken.invariant.kept;
+          c.loop-taken.invariant.leaves c.in_ok-follow.ensures.leaves;
+      kept = c.in_ok-follow.ensures.faultless ∙ c.loop-taken.invariant.kept;
     }
 
 -- ---- the keeper failed behind a step
+
+pub returns-in_err-follow-clause-breaks : goal.returns-in_err-follow-clause-breaks
+returns-in_err-follow-clause-breaks g c =
+    let start = c.args.hub.now in
+    let id = c.args.arrival.at.line in
+    let known : HasLine start id = c.requires.known in
+    let did = c.take_bytes-used.ensures.step in
+    let step : GoesOn start c.loop-taken.hub c.take_bytes-used.new.hub id c.args.arrival.piece.now c.split_at.result.1.now
+    c.loop-taken.taken c.take_bytes-used.result c.take_bytes-used.new.out.items = record {
+      known = known;
+      now_is = c.loop-taken.invariant.parts;
+      left_is = c.split_at.ensures.back;
+      rests = c.take_bytes-used.ensures.rests;
+      used_is = c.take_bytes-used.ensures.taken;
+      after_is = did.hub;
+      frame_is = did.frame;
+    } in
+    on_err c.from_residual.result (
+      AtStep c.loop-taken.taken (c.loop-taken.taken + c.take_bytes-used.result),
+      bytes_break g.W.Wire.says c.args.wire.now c.loop-taken.wire step
+          (omega (arith, c.take_bytes-used.ensures.within, c.split_at.ensures.back_len))
+          c.loop-taken.invariant.acts c.loop-taken.invariant.counts,
+    )
+
+pub returns-in_err-follow-clause-follows : goal.returns-in_err-follow-clause-follows
+returns-in_err-follow-clause-follows g c =
+    follows_refused g.K.Keeper.says c.args.keeper.now c.follow.new.keeper
+    c.from_residual.result c.from_residual.ensures.0
+    c.take_bytes-used.new.hub (no_more_then g.K.Keeper.says c.args.keeper.now c.loop-taken.keeper c.follow.new.keeper
+    c.loop-taken.invariant.leaves c.in_err-follow.ensures.leaves)
+    (omega (arith, c.loop-taken.invariant.kept, c.in_err-follow.ensures.counts))
+    (counted_from _ _ _ (omega (arith, c.loop-taken.invariant.kept)) c.in_err-follow.ensures.counted)
+
+pub returns-in_err-follow-clause-lines : goal.returns-in_err-follow-clause-lines
+returns-in_err-follow-clause-lines g c = λ d. c.take_bytes-used.ensures.step.lines d ∙ c.loop-taken.invariant.same d
+
+-- ---- a frame could not be written
+
+pub lose-requires-clause-known : goal.lose-requires-clause-known
+lose-requires-clause-known g c = omega (
+  arith,
+  c.requires.known,
+  c.loop-taken.invariant.same c.args.arrival.at.line.customer,
+  c.take_bytes-used.ensures.step.lines c.args.arrival.at.line.customer,
+)
+
+pub returns-in-Err-clause-done : goal.returns-in-Err-clause-done
+returns-in-Err-clause-done g c =
+    let start = c.args.hub.now in
+    let id = c.args.arrival.at.line in
+    let known : HasLine start id = c.requires.known in
+    let did = c.take_bytes-used.ensures.step in
+    let step : GoesOn start c.loop-taken.hub c.take_bytes-used.new.hub id c.args.arrival.piece.now c.split_at.result.1.now
+    c.loop-taken.taken c.take_bytes-used.result c.take_bytes-used.new.out.items = record {
+      known = known;
+      now_is = c.loop-taken.invariant.parts;
+      left_is = c.split_at.ensures.back;
+      rests = c.take_bytes-used.ensures.rests;
+      used_is = c.take_bytes-used.ensures.taken;
+      after_is = did.hub;
+      frame_is = did.frame;
+    } in
+    let n = c.loop-taken.taken + c.take_bytes-used.result in
+    let frame = c.take_bytes-used.new.out.items in
+    let F : List ℕ → Type 0 = λ b. g.W.Wire.says.passed c.loop-taken.wire c.send.new.wire (Unsent b ∷ []) in
+    let unsent = subst F c.deref-in-loop-taken.ensures.value c.in-Err.ensures.err.0 in
+    let some : 0 < length frame = omega (
+      arith,
+      c.in-Err.ensures.err.1,
+      ap (λ (b : List ℕ). length b)
+          c.deref-in-loop-taken.ensures.value,
+    ) in
+    let any : 0 < c.take_bytes-used.result =
+    c.take_bytes-used.ensures.progress (omega (arith, c.split_at.ensures.back_len)) in
+    let within : n ≤ length c.args.arrival.piece.now =
+    omega (arith, c.take_bytes-used.ensures.within, c.split_at.ensures.back_len) in
+    on_ok c.lose.result (
+      Some n,
+      bytes_unsent g.W.Wire.says c.args.wire.now c.loop-taken.wire c.send.new.wire g.met.W.Wire.more
+          c.lose.new.hub step some any within c.loop-taken.invariant.acts
+          c.loop-taken.invariant.counts
+          unsent c.in-Err.ensures.counts c.in-Err.ensures.counted c.lose.ensures.step.hub,
+    )
 
 pub returns-in-Err-clause-breaks : goal.returns-in-Err-clause-breaks
 returns-in-Err-clause-breaks g c =
@@ -108,96 +191,14 @@ returns-in-Err-clause-breaks g c =
       used_is = c.take_bytes-used.ensures.taken;
       after_is = did.hub;
       frame_is = did.frame;
-    } in (
-      AtStep c.loop-taken.taken (c.loop-taken.taken + c.take_bytes-used.result),
-      bytes_break g.W.Wire.says c.args.wire.now c.loop-taken.wire step
-          (omega (arith, c.take_bytes-used.ensures.within, c.split_at.ensures.back_len))
-          c.loop-taken.invariant.acts c.loop-taken.invariant.counts,
-    )
-
-pub returns-in-Err-clause-follows : goal.returns-in-Err-clause-follows
-returns-in-Err-clause-follows g c =
-    follows_ill g.K.Keeper.says c.args.keeper.now c.follow.new.keeper
-    c.in-Err.fault
-    c.take_bytes-used.new.hub (no_more_then g.K.Keeper.says c.args.keeper.now c.loop-taken.keeper c.follow.new.keeper
-    c.loop-taken.invariant.leaves c.in-Err.ensures.leaves)
-    (omega (arith, c.loop-taken.invariant.kept, c.in-Err.ensures.counts))
-    (counted_from _ _ _ (omega (arith, c.loop-taken.invariant.kept)) c.in-Err.ensures.counted)
-
-pub returns-in-Err-clause-lines : goal.returns-in-Err-clause-lines
-returns-in-Err-clause-lines g c = λ d. c.take_bytes-used.ensures.step.lines d ∙ c.loop-taken.invariant.same d
-
--- ---- a frame could not be written
-
-pub lose-requires-clause-known : goal.lose-requires-clause-known
-lose-requires-clause-known g c = omega (
-  arith,
-  c.requires.known,
-  c.loop-taken.invariant.same c.args.arrival.at.line.customer,
-  c.take_bytes-used.ensures.step.lines c.args.arrival.at.line.customer,
-)
-
-pub returns-in-Err-send-clause-done : goal.returns-in-Err-send-clause-done
-returns-in-Err-send-clause-done g c =
-    let start = c.args.hub.now in
-    let id = c.args.arrival.at.line in
-    let known : HasLine start id = c.requires.known in
-    let did = c.take_bytes-used.ensures.step in
-    let step : GoesOn start c.loop-taken.hub c.take_bytes-used.new.hub id c.args.arrival.piece.now c.split_at.result.1.now
-    c.loop-taken.taken c.take_bytes-used.result c.take_bytes-used.new.out.items = record {
-      known = known;
-      now_is = c.loop-taken.invariant.parts;
-      left_is = c.split_at.ensures.back;
-      rests = c.take_bytes-used.ensures.rests;
-      used_is = c.take_bytes-used.ensures.taken;
-      after_is = did.hub;
-      frame_is = did.frame;
     } in
     let n = c.loop-taken.taken + c.take_bytes-used.result in
     let frame = c.take_bytes-used.new.out.items in
     let F : List ℕ → Type 0 = λ b. g.W.Wire.says.passed c.loop-taken.wire c.send.new.wire (Unsent b ∷ []) in
-    let unsent = subst F c.deref-in-loop-taken.ensures.value c.in-Err-send.ensures.err.0 in
+    let unsent = subst F c.deref-in-loop-taken.ensures.value c.in-Err.ensures.err.0 in
     let some : 0 < length frame = omega (
       arith,
-      c.in-Err-send.ensures.err.1,
-      ap (λ (b : List ℕ). length b)
-          c.deref-in-loop-taken.ensures.value,
-    ) in
-    let any : 0 < c.take_bytes-used.result =
-    c.take_bytes-used.ensures.progress (omega (arith, c.split_at.ensures.back_len)) in
-    let within : n ≤ length c.args.arrival.piece.now =
-    omega (arith, c.take_bytes-used.ensures.within, c.split_at.ensures.back_len) in
-    on_ok c.lose.result (
-      Some n,
-      bytes_unsent g.W.Wire.says c.args.wire.now c.loop-taken.wire c.send.new.wire g.met.W.Wire.more
-          c.lose.new.hub step some any within c.loop-taken.invariant.acts
-          c.loop-taken.invariant.counts
-          unsent c.in-Err-send.ensures.counts c.in-Err-send.ensures.counted c.lose.ensures.step.hub,
-    )
-
-pub returns-in-Err-send-clause-breaks : goal.returns-in-Err-send-clause-breaks
-returns-in-Err-send-clause-breaks g c =
-    let start = c.args.hub.now in
-    let id = c.args.arrival.at.line in
-    let known : HasLine start id = c.requires.known in
-    let did = c.take_bytes-used.ensures.step in
-    let step : GoesOn start c.loop-taken.hub c.take_bytes-used.new.hub id c.args.arrival.piece.now c.split_at.result.1.now
-    c.loop-taken.taken c.take_bytes-used.result c.take_bytes-used.new.out.items = record {
-      known = known;
-      now_is = c.loop-taken.invariant.parts;
-      left_is = c.split_at.ensures.back;
-      rests = c.take_bytes-used.ensures.rests;
-      used_is = c.take_bytes-used.ensures.taken;
-      after_is = did.hub;
-      frame_is = did.frame;
-    } in
-    let n = c.loop-taken.taken + c.take_bytes-used.result in
-    let frame = c.take_bytes-used.new.out.items in
-    let F : List ℕ → Type 0 = λ b. g.W.Wire.says.passed c.loop-taken.wire c.send.new.wire (Unsent b ∷ []) in
-    let unsent = subst F c.deref-in-loop-taken.ensures.value c.in-Err-send.ensures.err.0 in
-    let some : 0 < length frame = omega (
-      arith,
-      c.in-Err-send.ensures.err.1,
+      c.in-Err.ensures.err.1,
       ap (λ (b : List ℕ). length b)
           c.deref-in-loop-taken.ensures.value,
     ) in
@@ -213,24 +214,24 @@ returns-in-Err-send-clause-breaks g c =
           g.met.W.Wire.more
           c.lose.new.hub step some any within c.loop-taken.invariant.acts
           c.loop-taken.invariant.counts
-          unsent c.in-Err-send.ensures.counts c.in-Err-send.ensures.counted c.lose.ensures.step.hub),
+          unsent c.in-Err.ensures.counts c.in-Err.ensures.counted c.lose.ensures.step.hub),
     )
 
-pub returns-in-Err-send-clause-follows : goal.returns-in-Err-send-clause-follows
-returns-in-Err-send-clause-follows g c =
+pub returns-in-Err-clause-follows : goal.returns-in-Err-clause-follows
+returns-in-Err-clause-follows g c =
     follows_on g.K.Keeper.says c.args.keeper.now c.follow.new.keeper
     c.lose.new.keeper c.lose.result
     c.lose.new.hub (no_more_then g.K.Keeper.says c.args.keeper.now c.loop-taken.keeper c.follow.new.keeper
-    c.loop-taken.invariant.leaves c.in-Ok.ensures.leaves) (c.in-Ok.ensures.faultless ∙ c.loop-taken.invariant.kept)
+    c.loop-taken.invariant.leaves c.in_ok-follow.ensures.leaves) (c.in_ok-follow.ensures.faultless ∙ c.loop-taken.invariant.kept)
     c.lose.ensures.follows
 
-pub returns-in-Err-send-clause-withheld : goal.returns-in-Err-send-clause-withheld
-returns-in-Err-send-clause-withheld g c =
+pub returns-in-Err-clause-withheld : goal.returns-in-Err-clause-withheld
+returns-in-Err-clause-withheld g c =
     g.met.W.Wire.withheld_more c.args.wire.now c.loop-taken.wire c.send.new.wire c.loop-taken.invariant.withheld
-    c.in-Err-send.ensures.withheld
+    c.in-Err.ensures.withheld
 
-pub returns-in-Err-send-clause-lines : goal.returns-in-Err-send-clause-lines
-returns-in-Err-send-clause-lines g c = λ d. c.lose.ensures.step.lines d ∙ c.take_bytes-used.ensures.step.lines d
+pub returns-in-Err-clause-lines : goal.returns-in-Err-clause-lines
+returns-in-Err-clause-lines g c = λ d. c.lose.ensures.step.lines d ∙ c.take_bytes-used.ensures.step.lines d
     ∙ c.loop-taken.invariant.same d
 
 -- ---- all bytes were used
@@ -262,8 +263,8 @@ returns-clause-follows g c =
 pub returns-clause-withheld : goal.returns-clause-withheld
 returns-clause-withheld g c = c.loop-taken.invariant.withheld
 
-pub returns-in-Err-clause-withheld : goal.returns-in-Err-clause-withheld
-returns-in-Err-clause-withheld g c = c.loop-taken.invariant.withheld
+pub returns-in_err-follow-clause-withheld : goal.returns-in_err-follow-clause-withheld
+returns-in_err-follow-clause-withheld g c = c.loop-taken.invariant.withheld
 
 pub returns-clause-lines : goal.returns-clause-lines
 returns-clause-lines g c = c.loop-taken.invariant.same

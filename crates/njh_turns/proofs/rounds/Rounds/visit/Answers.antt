@@ -7,7 +7,7 @@ use Rattle.njh_turns.specs.Breaks.{TurnBreaks}
 use Rattle.njh_turns.specs.Turns.{LineQuiets, IsRound, no_line_id, moment}
 use Rattle.njh_turns.specs.Wires.{hub_wire}
 use Rattle.njh_turns.proofs.BreakLaws.{round_stops, withheld_on}
-use Rattle.njh_turns.proofs.KeepingLaws.{follows_ill, follows_well, no_more_then}
+use Rattle.njh_turns.proofs.KeepingLaws.{follows_refused, follows_well, no_more_then, on_err}
 use Rattle.njh_turns.proofs.RoundLaws.{GoesRound, round_more, round_none, round_over, passed_over}
 use Rattle.njh_turns.proofs.rounds.Rounds.visit.Goals as goal
 
@@ -63,7 +63,7 @@ loop-i-preserved g c =
     let wire = get_or wires i c.index-wires-i.result in
     let new = c.take_turn.new in
     let so_far = c.loop-i.invariant.turns in
-    let did = c.in-Ok.ensures.turn in
+    let did = c.in_ok-take_turn.ensures.turn in
     let whole : length start.quiets ≡ length start.lines = omega (
       arith,
       c.self.invariant.0,
@@ -99,14 +99,15 @@ loop-i-preserved g c =
         subst P (sym did.2) (round_more goes),
       );
       lines = c.take_turn.ensures.same ∙ c.loop-i.invariant.lines;
-      same = λ d. c.in-Ok.ensures.lines d ∙ c.loop-i.invariant.same d;
-      asked = c.in-Ok.ensures.asked;
+      same = λ d. c.in_ok-take_turn.ensures.lines d ∙ c.loop-i.invariant.same d;
+      asked = c.in_ok-take_turn.ensures.asked;
       withheld = withheld_on g.W.Wire.says g.met.W.Wire.withheld_more c.args.wires.now wires i wire new.wire
-          (omega (arith, c.requires.same, within)) wire_is c.loop-i.invariant.withheld c.in-Ok.ensures.withheld;
-      knows = c.in-Ok.ensures.follows.known;
+          (omega (arith, c.requires.same, within)) wire_is c.loop-i.invariant.withheld
+          c.in_ok-take_turn.ensures.withheld;
+      knows = c.in_ok-take_turn.ensures.follows.known;
       leaves = no_more_then g.K.Keeper.says c.args.keeper.now c.loop-i.keeper new.keeper c.loop-i.invariant.leaves
-          c.in-Ok.ensures.follows.leaves;
-      kept = c.in-Ok.ensures.follows.faultless ∙ c.loop-i.invariant.kept;
+          c.in_ok-take_turn.ensures.follows.leaves;
+      kept = c.in_ok-take_turn.ensures.follows.faultless ∙ c.loop-i.invariant.kept;
     }
 
 pub loop-i-preserved-then-not-is_due : goal.loop-i-preserved-then-not-is_due
@@ -143,11 +144,11 @@ loop-i-preserved-then-not-is_due g c =
 
 -- ---- the keeper failed in a turn
 
-pub returns-in-Err-clause-stops : goal.returns-in-Err-clause-stops
-returns-in-Err-clause-stops g c =
+pub returns-in_err-take_turn-clause-stops : goal.returns-in_err-take_turn-clause-stops
+returns-in_err-take_turn-clause-stops g c =
     let i = c.loop-i.i in
     let so_far = c.loop-i.invariant.turns in
-    let broke = c.in-Err.ensures.breaks in
+    let broke = c.in_err-take_turn.ensures.breaks in
     let wire = get_or c.loop-i.wires i c.index-wires-i.result in
     let P : List LineId → Type 0 = λ ls. TurnBreaks g.W.Wire.says (get_or ls i no_line_id)
     (get_or c.loop-i.self.quiets i 0) (hub_wire c.loop-i.hub wire) broke.0
@@ -158,19 +159,21 @@ returns-in-Err-clause-stops g c =
       c.len-i-end.ensures,
       ap (λ (r : LineQuiets). length r.lines) c.self.view_is,
     ) in
-    round_stops i wire broke.0 so_far.2 so_far.1 within (omega (arith, c.requires.same, within))
-    (ap (get_or c.loop-i.wires i) c.index-wires-i.is) (subst P c.loop-i.invariant.lines broke.1)
+    on_err c.from_residual.result (round_stops i wire broke.0 so_far.2 so_far.1 within
+    (omega (arith, c.requires.same, within)) (ap (get_or c.loop-i.wires i) c.index-wires-i.is)
+    (subst P c.loop-i.invariant.lines broke.1))
 
-pub returns-in-Err-clause-follows : goal.returns-in-Err-clause-follows
-returns-in-Err-clause-follows g c =
-    follows_ill g.K.Keeper.says c.args.keeper.now c.take_turn.new.keeper
-    c.in-Err.fault c.take_turn.new.hub (no_more_then g.K.Keeper.says c.args.keeper.now c.loop-i.keeper
-    c.take_turn.new.keeper c.loop-i.invariant.leaves c.in-Err.ensures.follows.leaves)
-    (omega (arith, c.loop-i.invariant.kept, c.in-Err.ensures.follows.counts))
-    (counted_from _ _ _ (omega (arith, c.loop-i.invariant.kept)) c.in-Err.ensures.follows.counted)
+pub returns-in_err-take_turn-clause-follows : goal.returns-in_err-take_turn-clause-follows
+returns-in_err-take_turn-clause-follows g c =
+    follows_refused g.K.Keeper.says c.args.keeper.now c.take_turn.new.keeper
+    c.from_residual.result c.from_residual.ensures.0 c.take_turn.new.hub
+    (no_more_then g.K.Keeper.says c.args.keeper.now c.loop-i.keeper c.take_turn.new.keeper c.loop-i.invariant.leaves
+    c.in_err-take_turn.ensures.follows.leaves)
+    (omega (arith, c.loop-i.invariant.kept, c.in_err-take_turn.ensures.follows.counts))
+    (counted_from _ _ _ (omega (arith, c.loop-i.invariant.kept)) c.in_err-take_turn.ensures.follows.counted)
 
-pub returns-in-Err-clause-withheld : goal.returns-in-Err-clause-withheld
-returns-in-Err-clause-withheld g c =
+pub returns-in_err-take_turn-clause-withheld : goal.returns-in_err-take_turn-clause-withheld
+returns-in_err-take_turn-clause-withheld g c =
     let i = c.loop-i.i in
     let wires = c.loop-i.wires in
     let within : c.loop-i.i < length c.args.self.now.lines = omega (
@@ -182,13 +185,13 @@ returns-in-Err-clause-withheld g c =
     withheld_on g.W.Wire.says g.met.W.Wire.withheld_more c.args.wires.now wires i
     (get_or wires i c.index-wires-i.result)
     c.take_turn.new.wire (omega (arith, c.requires.same, within)) (ap (get_or wires i) c.index-wires-i.is)
-    c.loop-i.invariant.withheld c.in-Err.ensures.withheld
+    c.loop-i.invariant.withheld c.in_err-take_turn.ensures.withheld
 
-pub returns-in-Err-clause-same : goal.returns-in-Err-clause-same
-returns-in-Err-clause-same g c = c.take_turn.ensures.same ∙ c.loop-i.invariant.lines
+pub returns-in_err-take_turn-clause-same : goal.returns-in_err-take_turn-clause-same
+returns-in_err-take_turn-clause-same g c = c.take_turn.ensures.same ∙ c.loop-i.invariant.lines
 
-pub returns-in-Err-clause-lines : goal.returns-in-Err-clause-lines
-returns-in-Err-clause-lines g c = λ d. c.in-Err.ensures.lines d ∙ c.loop-i.invariant.same d
+pub returns-in_err-take_turn-clause-lines : goal.returns-in_err-take_turn-clause-lines
+returns-in_err-take_turn-clause-lines g c = λ d. c.in_err-take_turn.ensures.lines d ∙ c.loop-i.invariant.same d
 
 -- ---- all wires had their turns
 
