@@ -1,3 +1,4 @@
+pub mod FileLines
 pub mod Kinds
 pub mod Limiting
 pub mod Logging

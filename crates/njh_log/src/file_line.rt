@@ -1,5 +1,7 @@
 //! What the log tells of a file.
 
+ghost use Rattle.std.specs.Prelude.{◌≡◌};
+
 use njh_ebcdic::text_of;
 use njh_header::{Destination, FileName, User};
 use njh_hub::FileSummaryView;
@@ -33,8 +35,12 @@ impl fmt::Display for FileLine {
 }
 
 impl FileLine {
+    ghost use Rattle.njh_log.specs.FileLines.{line_of};
+
     /// What is told of this file.
-    pub fn of(file: &FileSummaryView) -> FileLine {
+    pub fn of(file: &FileSummaryView) -> FileLine
+        ensures { result ≡ line_of file.now }
+    {
         FileLine {
             name: file.name,
             owner: file.owner,

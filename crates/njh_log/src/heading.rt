@@ -72,7 +72,9 @@ impl Place {
 
 impl Heading {
     /// That of an error which isn't one customer's.
-    pub fn error(milliseconds: i64) -> Heading {
+    pub fn error(milliseconds: i64) -> Heading
+        ensures { result ≡ record { milliseconds = milliseconds; severity = Severity.Error; place = Place.Hub } }
+    {
         Heading {
             milliseconds,
             severity: Severity::Error,
@@ -81,7 +83,9 @@ impl Heading {
     }
 
     /// That of a warning which isn't one customer's.
-    pub fn warning(milliseconds: i64) -> Heading {
+    pub fn warning(milliseconds: i64) -> Heading
+        ensures { result ≡ record { milliseconds = milliseconds; severity = Severity.Warning; place = Place.Hub } }
+    {
         Heading {
             milliseconds,
             severity: Severity::Warning,
