@@ -94,10 +94,7 @@ pub(crate) fn admitted<L: Drop>(door: Door<L>, strict: bool) -> Result<Door<L>, 
     ensures lax { strict ≡ false → IsOk result }
 {
     match door.cause() {
-        Some(cause) if strict => {
-            drop(door);
-            Err(cause)
-        }
+        Some(cause) if strict => Err(cause),
         _ => Ok(door),
     }
 }
