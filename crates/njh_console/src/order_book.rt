@@ -113,8 +113,7 @@ impl OrderBook {
     pub(crate) fn remember(&mut self, ticket: Ticket, outcome: Outcome)
         ensures { self.new ≡ with_outcome ticket outcome self.old }
     {
-        let oldest = self.records.push_back(OrderRecord { ticket, outcome });
-        drop(oldest);
+        let _oldest = self.records.push_back(OrderRecord { ticket, outcome });
     }
 
     /// The order that waits isn't carried out, since who gave it has gone.
