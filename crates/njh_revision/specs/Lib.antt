@@ -1,4 +1,5 @@
 pub mod Giving
 pub mod News
 pub mod Origins
+pub mod Outcomes
 pub mod Revisions

@@ -1,5 +1,7 @@
 //! What came of a look at a source of tables.
 
+ghost use Rattle.std.specs.Prelude.{◌≡◌};
+
 use crate::difference::Difference;
 use njh_log::{LineText, Severity};
 use njh_table::Tables;
@@ -21,8 +23,12 @@ pub enum SourceOutcome<F: Drop> {
 }
 
 impl<F: fmt::Display + Drop> SourceOutcome<F> {
+    ghost use Rattle.njh_revision.specs.Outcomes.{severity_of};
+
     /// How grave it is.
-    pub fn severity(&self) -> Severity {
+    pub fn severity(&self) -> Severity
+        ensures { result ≡ severity_of self.now }
+    {
         match self {
             SourceOutcome::Refused(_) => Severity::Error,
             SourceOutcome::Differs(_, _) => Severity::Warning,

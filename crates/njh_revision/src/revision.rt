@@ -1,6 +1,6 @@
 //! New tables for a hub that runs.
 
-ghost use Rattle.std.specs.Prelude.{◌≡◌, ◌⊎◌, length, option_and_then, option_map, Some, None, IfSome, IfOk};
+ghost use Rattle.std.specs.Prelude.{◌≡◌, ◌⊎◌, is_some, length, option_and_then, option_map, Some, None, IfSome, IfOk};
 ghost use Rattle.njh_revision.specs.Giving.{IsPassedOver};
 ghost use Rattle.njh_revision.specs.News.{HasAllOf, IsOutcomeOf};
 ghost use Rattle.njh_revision.specs.Origins.{from_known, from_read, read_in};
@@ -120,7 +120,9 @@ impl<S: TableSource + Drop> Revision<S> {
 
     /// What the tables that were just taken bring the customers, by those that were taken before, if
     /// any were.
-    pub fn changes<'a>(&'a self, before: &'a Option<Tables>) -> Option<RouteChanges<'a>> {
+    pub fn changes<'a>(&'a self, before: &'a Option<Tables>) -> Option<RouteChanges<'a>>
+        ensures { is_some result ≡ is_some self.now }
+    {
         match &self.known {
             Some(known) => Some(RouteChanges::of(known, before)),
             None => None,
@@ -221,7 +223,6 @@ impl<S: TableSource + Drop> Revision<S> {
         if differ {
             Some(SourceOutcome::Taken(before))
         } else {
-            drop(before);
             Some(SourceOutcome::Same)
         }
     }
