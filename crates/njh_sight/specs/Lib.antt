@@ -1,6 +1,7 @@
 pub mod Awaiting
 pub mod News
 pub mod Prompting
+pub mod Queues
 pub mod Sessions
 pub mod Stands
 pub mod Steps

@@ -16,6 +16,22 @@ abbrev pub speaks_unasked : Protocol → Bool
 speaks_unasked Bisync = false
 speaks_unasked Tcp = true
 
+-- a line that has had no turn
+abbrev pub no_traffic : Traffic
+no_traffic = record {
+  seen = record {
+    is_up = false;
+    next_count = 0;
+    last_bcb = None;
+    rests = false;
+    waits = false;
+    begun = 18446744073709551615;
+    unasked = false;
+  };
+  text = None;
+  paid = 0;
+}
+
 -- a line was seen with this session: whether it was up, and the counts of its blocks
 pub record HasSeen (session : SessionView) (seen : Sight) : Type 0 where
   pub up : IsTrue seen.is_up ↔ (session.phase ≡ Up)

@@ -7,6 +7,19 @@ use Rattle.njh_sight.specs.declared.steps.SentFrame.{SentFrame}
 use Rattle.njh_sight.specs.declared.steps.SentFrame.TheVariants.{Nothing, Nak, Text, Other}
 use Rattle.njh_sight.specs.declared.steps.Steps.{Steps}
 
+-- a line on which there was no step
+abbrev pub no_steps : Steps
+no_steps = record {
+  is_up = false;
+  next_count = 0;
+  last_bcb = None;
+  sent = Nothing;
+  naks = 0;
+  repeats = 0;
+  blocks_in = 0;
+  blocks_out = 0;
+}
+
 -- ---- what the hub sent
 
 abbrev pub byte_at : List ℕ → ℕ → ℕ

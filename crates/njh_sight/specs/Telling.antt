@@ -1,9 +1,10 @@
 -- What is told of files that a line's streams are about no more.
-use Rattle.std.specs.Prelude.{ℕ, ◌+◌, ◌-◌, ◌==◌, min, Bool, true, false, List, Option, Some, None}
+use Rattle.std.specs.Prelude.{◌≡◌, ℕ, ◌+◌, ◌-◌, ◌==◌, min, Bool, true, false, List, Option, Some, None, take}
 use Rattle.std.specs.Prelude.{option_map, option_and_then, slice_get}
 use Rattle.njh_hub.specs.Views.{file_summary, whole_file_on}
 use Rattle.njh_hub.specs.WholeHub.{Part}
 use Rattle.njh_hub.specs.declared.file_summary.FileSummaryView.{FileSummaryView}
+use Rattle.njh_stream.specs.Receiving.{Notice}
 use Rattle.njh_stream.specs.Sending.{file_in}
 use Rattle.njh_stream.specs.declared.receiver.Receiver.{Receiver}
 use Rattle.njh_stream.specs.declared.receiver.Receiver.TheVariants as receiving
@@ -39,6 +40,17 @@ abbrev pub loss : (stream : ℕ) → (drains : Bool) → (notice : Option Notice
 loss stream drains (Some notice) = events.ComingRefused stream (Some notice)
 loss stream true None = events.ComingRefused stream None
 loss stream false None = events.ComingCutOff stream
+
+-- a line has the words of a notice, and whom they were for
+pub record Copies (notice : Notice) (line : NoticeLine) : Type 0 where
+  pub node : line.node ≡ notice.whom.node
+  pub user : line.user ≡ notice.whom.user
+  pub text : take line.length line.text ≡ notice.text
+
+-- so the hub refused it, and its owner was told this
+abbrev pub IsTold : (stream : ℕ) → Notice → LogEvent → Type 0
+IsTold stream notice told =
+    (line : NoticeLine) × (Copies notice line × (told ≡ events.ComingRefused stream (Some line)))
 
 -- A file went out: it went whole if the customer has it no more and its end was sent; the peer refused it if it is
 -- kept as refused; else nothing is told, since it is still to go.

@@ -5,6 +5,10 @@ use Rattle.std.specs.Prelude.{◌≡◌, ◌≢◌, ◌≤◌, ◌⊎◌, List, 
 use Rattle.std.specs.Option.{option_map}
 use Rattle.njh_sight.specs.declared.customers.Row.{Row}
 
+-- a customer of whom no line is served
+abbrev pub no_row : Row
+no_row = record { customer = 0; first = 0; end = 0; has_moved = false; again = 0 }
+
 -- a line without files costs as much as sixteen files, and a customer has 12,500 in a millisecond
 abbrev pub pause_for : ℕ → ℕ → ℕ
 pause_for lines files = min (lines * (16 + files)) 18446744073709551615 / 12500

@@ -1,9 +1,9 @@
 //! What the attendant keeps of each customer.
 
-ghost use Rattle.std.specs.Prelude.{◌≡◌, None, Some, slice_get, IfSome, IsTrue};
+ghost use Rattle.std.specs.Prelude.{◌≡◌, None, Some, replicate, slice_get, IfSome, IsTrue};
 ghost use Rattle.njh_sight.specs.Telling.{came_between};
 ghost use Rattle.njh_sight.specs.Waking.{is_wanted, look_moment, looked, looked_again, marked, pause_for, with_line};
-ghost use Rattle.njh_sight.specs.Waking.{IsFirstLook, IsRowMade};
+ghost use Rattle.njh_sight.specs.Waking.{no_row, IsFirstLook, IsRowMade};
 ghost use Rattle.njh_sight.specs.declared.customers.Row.{Row};
 
 use crate::streams::has_come_near;
@@ -189,7 +189,9 @@ fn pause_for(lines: u64, files: u32) -> u64
 
 impl Customers {
     /// Of customers of whom no line is served.
-    pub fn none() -> Customers {
+    pub fn none() -> Customers
+        ensures { result ≡ replicate 64 no_row }
+    {
         Customers {
             near: [false; CUSTOMERS],
             near_files: [false; CUSTOMERS],

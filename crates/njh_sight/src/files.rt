@@ -1,30 +1,59 @@
 //! What is told of a line's files.
 
-ghost use Rattle.std.specs.Prelude.{◌≡◌, ◌<◌, ℕ, Bool, Some, slice_get};
-ghost use Rattle.njh_sight.specs.Telling.{arrival, departure, loss, state_on};
+ghost use Rattle.std.specs.Prelude.{◌≡◌, ◌<◌, ℕ, Bool, Some, None, option_map, slice_get, IsSomeAnd};
+ghost use Rattle.njh_stream.specs.Receiving.{Notice};
+ghost use Rattle.njh_hub.specs.Views.{file_summary, hub_line, whole_file_on};
+ghost use Rattle.njh_hub.specs.WholeHub.{HasLine};
+ghost use Rattle.njh_log.specs.FileLines.{line_of};
+ghost use Rattle.njh_sight.specs.Stands.{drains_at};
+ghost use Rattle.njh_sight.specs.Telling.{arrival, departure, loss, state_on, Copies, IsTold};
 ghost use Rattle.njh_log.specs.declared.file_line.FileLine.{FileLine};
 
+use crate::stands::drains_at;
 use crate::streams::Streams;
 use njh_block::Stream;
 use njh_hub::Hub;
 use njh_log::{FileLine, LogEvent, NoticeLine};
 use njh_spool::{FileId, State};
-use njh_stream::Receiver;
 use njh_table::LineId;
 
 /// What is told of a file that came in on the stream of a place and isn't kept.
 pub fn loss_on(hub: &Hub, id: LineId, place: usize) -> LogEvent
     requires { place < 8 }
+    ensures noticed { (notice : Notice) → HasLine hub.now id
+        → slice_get (hub_line id hub.now).notices place ≡ Some (Some notice) → IsTold place notice result }
+    ensures unnoticed { HasLine hub.now id → slice_get (hub_line id hub.now).notices place ≡ Some None
+        → result ≡ loss place (drains_at (hub_line id hub.now).receivers place) None }
 {
-    let drains = match hub.receivers(id) {
-        Ok(receivers) => matches!(receivers.get(place), Some(Receiver::Draining)),
+    let drains = drains_on(hub, id, place);
+    let notice = notice_on(hub, id, place);
+    loss(Stream::at(place as u8), drains, notice)
+}
+
+/// Whether the rest of a file is ignored that came in on the stream of a place.
+fn drains_on(hub: &Hub, id: LineId, place: usize) -> bool
+    ensures { HasLine hub.now id → result ≡ drains_at (hub_line id hub.now).receivers place }
+{
+    match hub.receivers(id) {
+        Ok(receivers) => drains_at(receivers, place),
         Err(_) => false,
-    };
-    let notice = match hub.notices(id) {
-        Ok(notices) => notices.get(place).and_then(|notice| notice.as_ref()),
+    }
+}
+
+/// A copy of what its owner was told, if that was so.
+fn notice_on(hub: &Hub, id: LineId, place: usize) -> Option<NoticeLine>
+    ensures noticed { (notice : Notice) → HasLine hub.now id
+        → slice_get (hub_line id hub.now).notices place ≡ Some (Some notice) → IsSomeAnd result (Copies notice) }
+    ensures unnoticed { HasLine hub.now id → slice_get (hub_line id hub.now).notices place ≡ Some None
+        → result ≡ None }
+{
+    match hub.notices(id) {
+        Ok(notices) => match notices.get(place) {
+            Some(Some(notice)) => Some(NoticeLine::of(notice)),
+            Some(None) | None => None,
+        },
         Err(_) => None,
-    };
-    loss(Stream::at(place as u8), drains, notice.map(NoticeLine::of))
+    }
 }
 
 /// What is told of a file that came whole.
@@ -86,7 +115,9 @@ fn departure(kept: Option<State>, ended: bool, line: FileLine) -> Option<LogEven
 }
 
 /// What is told of a customer's whole file, if it has one of this number.
-pub fn summary_of(hub: &Hub, customer: u16, file: FileId) -> Option<FileLine> {
+pub fn summary_of(hub: &Hub, customer: u16, file: FileId) -> Option<FileLine>
+    ensures { result ≡ option_map line_of (option_map file_summary (whole_file_on customer file hub.now)) }
+{
     let summary = hub.file_summary(customer, file)?;
     Some(FileLine::of(&summary))
 }

@@ -1,6 +1,6 @@
 //! Since when the streams of a line stand as they stand.
 
-ghost use Rattle.std.specs.Prelude.{◌≡◌};
+ghost use Rattle.std.specs.Prelude.{◌≡◌, false, None, replicate};
 ghost use Rattle.njh_hub.specs.Views.{hub_line};
 ghost use Rattle.njh_hub.specs.WholeHub.{part, HasLine};
 ghost use Rattle.njh_sight.specs.Telling.{coming_at};
@@ -91,7 +91,11 @@ impl GoingStand {
 
 impl Stands {
     /// Those of streams that are about nothing.
-    pub fn idle() -> Stands {
+    pub fn idle() -> Stands
+        ensures coming { result.coming
+            ≡ replicate 8 (record { file = None; drains = false; records = 0; since = 0 }) }
+        ensures going { result.going ≡ replicate 8 (record { sender = Sender.Idle; since = 0 }) }
+    {
         Stands {
             coming: [ComingStand::IDLE; STREAMS],
             going: [GoingStand::IDLE; STREAMS],
@@ -177,7 +181,7 @@ fn is_same_file(file: Option<FileId>, other: Option<FileId>) -> bool
 }
 
 /// Whether the rest of a file is ignored on the stream of a place.
-fn drains_at(receivers: &[Receiver], place: usize) -> bool
+pub(crate) fn drains_at(receivers: &[Receiver], place: usize) -> bool
     ensures { result ≡ drains_at receivers.now place }
 {
     match receivers.get(place) {

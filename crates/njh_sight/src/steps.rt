@@ -2,7 +2,7 @@
 
 ghost use Rattle.std.specs.Prelude.{◌≡◌};
 ghost use Rattle.njh_sight.specs.Steps.{byte_at, count_after, is_nak, is_new_bcb, is_new_block, is_repeat, is_text};
-ghost use Rattle.njh_sight.specs.Steps.{sent_frame, steps_after};
+ghost use Rattle.njh_sight.specs.Steps.{no_steps, sent_frame, steps_after};
 
 use crate::ending::is_up;
 use njh_hub::SessionView;
@@ -53,7 +53,9 @@ pub struct Steps {
 
 impl Steps {
     /// Those of a line on which there was none.
-    pub fn none() -> Steps {
+    pub fn none() -> Steps
+        ensures { result ≡ no_steps }
+    {
         Steps {
             is_up: false,
             next_count: 0,

@@ -1,8 +1,9 @@
 //! What the streams of a line were about when it was last looked at.
 
-ghost use Rattle.std.specs.Prelude.{◌≡◌, ℕ, ◌<◌, ◌↔◌, ◌&&◌, not, None, get_or, length, IsTrue, IfSome};
+ghost use Rattle.std.specs.Prelude.{◌≡◌, ℕ, ◌<◌, ◌↔◌, ◌&&◌, not, false, None, get_or, length, replicate, IsTrue};
+ghost use Rattle.std.specs.Prelude.{IfSome};
 ghost use Rattle.njh_sight.specs.Telling.{coming_at, ended_at, going_at};
-ghost use Rattle.njh_sight.specs.Tally.{answers_counted};
+ghost use Rattle.njh_sight.specs.Tally.{answers_counted, no_tally};
 ghost use Rattle.njh_sight.specs.code.Streams.{first_gone, is_gone, near_after};
 
 use crate::tally::{Answering, FileRefusal, Tally};
@@ -30,7 +31,15 @@ pub struct Streams {
 
 impl Streams {
     /// Streams about nothing.
-    pub fn idle() -> Streams {
+    pub fn idle() -> Streams
+        ensures { result ≡ record {
+          coming = replicate 8 None;
+          going = replicate 8 None;
+          ended = replicate 8 false;
+          lines = replicate 8 None;
+          tally = no_tally;
+        } }
+    {
         Streams {
             coming: [None; STREAMS],
             going: [None; STREAMS],

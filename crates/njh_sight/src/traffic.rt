@@ -3,7 +3,8 @@
 ghost use Rattle.std.specs.Prelude.{◌≡◌, ◌-◌, ◌<◌, ◌^◌, ◌↔◌, ◌&&◌, IsTrue};
 ghost use Rattle.njh_hub.specs.Resting.{HasNext};
 ghost use Rattle.njh_sight.specs.Prompting.{IsPrompted, has_text, is_recent, is_same_bcb, is_soon, moves_others};
-ghost use Rattle.njh_sight.specs.Prompting.{held_until, is_silent, may_prompt, noted, paid_after, soon, waits_for_peer};
+ghost use Rattle.njh_sight.specs.Prompting.{held_until, is_silent, may_prompt, no_traffic, noted, paid_after, soon};
+ghost use Rattle.njh_sight.specs.Prompting.{waits_for_peer};
 
 use njh_hub::Hub;
 use njh_table::LineId;
@@ -52,7 +53,9 @@ pub struct Traffic {
 
 impl Traffic {
     /// That of a line that has had no turn.
-    pub fn none() -> Traffic {
+    pub fn none() -> Traffic
+        ensures { result ≡ no_traffic }
+    {
         Traffic {
             seen: Sight {
                 is_up: false,
