@@ -87,13 +87,11 @@ pub fn answer_request(
             shows(alloc, since, value)
         }
         Request::Lines(customer, from) => {
-            let (hub, tables) = (views.hub, views.tables);
-            let value = lines_value(alloc, hub, tables, views.lines, customer, from)?;
+            let value = lines_value(alloc, views, customer, from)?;
             shows(alloc, since, value)
         }
         Request::Files(customer, from) => {
-            let (hub, tables) = (views.hub, views.tables);
-            let value = files_value(alloc, hub, tables, views.arrivals, customer, from)?;
+            let value = files_value(alloc, views, customer, from)?;
             shows(alloc, since, value)
         }
         Request::Outcome(key) => {

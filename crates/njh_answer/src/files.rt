@@ -11,15 +11,15 @@ ghost use Rattle.njh_answer.specs.Files.{file_data, file_entry, files_data, kind
 ghost use Rattle.njh_answer.specs.Files.{state_text, text_data};
 ghost use Rattle.njh_answer.specs.Pages.{told};
 
+use crate::answering::Views;
 use crate::fields::{file_name_text, name_text, user_value};
 use crate::page::Page;
 use crate::served::moment_value;
-use njh_arrivals::Arrivals;
 use njh_ebcdic::{FIELD, Name};
 use njh_hub::{FileSummaryView, Hub};
 use njh_record::Kind;
 use njh_spool::State;
-use njh_table::{NamedLine, Route, Tables};
+use njh_table::{NamedLine, Route};
 use serde_json::{Value, json};
 use std::alloc::{AllocError, Global};
 
@@ -30,22 +30,20 @@ const FILES: usize = 128;
 /// has, and the place to go on from. Out of memory is the only refusal.
 pub(crate) fn files_value(
     alloc: Global,
-    hub: &Hub,
-    tables: &Tables,
-    arrivals: &Arrivals,
+    views: &Views<'_>,
     customer: u16,
     from: u64,
 ) -> Result<Value, AllocError>
-    requires { customer < length tables.now.customers }
-    ensures { IfOk result (λ value. view value
-        ≡ files_data (customer_at tables.now customer) (part customer hub.now) (seen_of customer arrivals.now) from) }
+    requires { customer < length views.now.tables.now.customers }
+    ensures { IfOk result (λ value. view value ≡ files_data (customer_at views.now.tables.now customer)
+        (part customer views.now.hub.now) (seen_of customer views.now.arrivals.now) from) }
 {
-    let named = tables.customer(customer);
-    let count = hub.file_count(customer) as usize;
-    let left = hub.arrived(customer).saturating_sub(count as u64);
+    let named = views.tables.customer(customer);
+    let count = views.hub.file_count(customer) as usize;
+    let left = views.hub.arrived(customer).saturating_sub(count as u64);
     let page = Page::of(from.saturating_sub(left), FILES, count);
     let name = name_text(alloc, named.name())?;
-    let files = file_values(alloc, hub, named.lines(), arrivals, customer, page)?;
+    let files = file_values(alloc, views, named.lines(), customer, page)?;
     let files = Value::Array(files);
     let next = page.next(left, count);
     json!(in alloc; {"customer": name, "files": files, "next": next})
@@ -54,22 +52,22 @@ pub(crate) fn files_value(
 /// The files of a page, with the lines that their customer has by the tables.
 fn file_values(
     alloc: Global,
-    hub: &Hub,
+    views: &Views<'_>,
     lines: &[NamedLine],
-    arrivals: &Arrivals,
     customer: u16,
     page: Page,
 ) -> Result<Vec<Value>, AllocError>
     requires ordered { page.first ≤ page.end }
-    requires within { page.end ≤ length (part customer hub.now).customer.spool.whole }
+    requires within { page.end ≤ length (part customer views.now.hub.now).customer.spool.whole }
     requires few { page.end < 2 ^ 32 }
     ensures { IfOk result (λ values. map view values.items
-        ≡ map (file_entry lines.now (part customer hub.now).customer.entry (seen_of customer arrivals.now))
-        (told page (part customer hub.now).customer.spool.whole)) }
+        ≡ map (file_entry lines.now (part customer views.now.hub.now).customer.entry
+        (seen_of customer views.now.arrivals.now))
+        (told page (part customer views.now.hub.now).customer.spool.whole)) }
 {
     let mut values = Vec::new(alloc);
     for index in page.first..page.end {
-        values.push(told_file(alloc, hub, lines, arrivals, customer, index as u32)?)?;
+        values.push(told_file(alloc, views, lines, customer, index as u32)?)?;
     }
     Ok(values)
 }
@@ -77,20 +75,21 @@ fn file_values(
 /// The file at an index in the order of arrival.
 fn told_file(
     alloc: Global,
-    hub: &Hub,
+    views: &Views<'_>,
     lines: &[NamedLine],
-    arrivals: &Arrivals,
     customer: u16,
     index: u32,
 ) -> Result<Value, AllocError>
-    requires { index < length (part customer hub.now).customer.spool.whole }
+    requires { index < length (part customer views.now.hub.now).customer.spool.whole }
     ensures { IfOk result (λ value. view value
-        ≡ file_entry lines.now (part customer hub.now).customer.entry (seen_of customer arrivals.now)
-        (file_at index (part customer hub.now).customer.spool)) }
+        ≡ file_entry lines.now (part customer views.now.hub.now).customer.entry
+        (seen_of customer views.now.arrivals.now)
+        (file_at index (part customer views.now.hub.now).customer.spool)) }
 {
-    let file = hub.summary_at(customer, index);
-    let came = arrivals.moment(customer, hub.number_at(customer, index));
-    let line = line_to(hub, lines, customer, &file.destination.node);
+    let number = views.hub.number_at(customer, index);
+    let file = views.hub.summary_at(customer, index);
+    let came = views.arrivals.moment(customer, number);
+    let line = line_to(views.hub, lines, customer, &file.destination.node);
     file_value(alloc, &file, came, line)
 }
 

@@ -13,6 +13,7 @@ ghost use Rattle.njh_answer.specs.Queues.{queue_where};
 ghost use Rattle.njh_answer.specs.Lines.{receiver_data, receivers_where, role_text, sender_data, senders_where};
 ghost use Rattle.njh_answer.specs.Lines.{served_data, session_data, session_where, turn_text};
 
+use crate::answering::Views;
 use crate::fields::{file_name_text, name_text};
 use crate::page::Page;
 use crate::queue::queue_value;
@@ -110,31 +111,42 @@ fn sender_value(
 {
     match sender {
         Sender::Idle => Ok(Value::Null),
-        Sender::Requested(file) => going_value(alloc, hub, customer, file, 0, "asked for"),
-        Sender::Sending(file, next) => going_value(alloc, hub, customer, file, next, "sending"),
+        Sender::Requested(file) => Going::of(file, 0, "asked for").value(alloc, hub, customer),
+        Sender::Sending(file, next) => Going::of(file, next, "sending").value(alloc, hub, customer),
         Sender::EofSent(file) => {
             let records = hub.record_count(customer, file);
-            going_value(alloc, hub, customer, file, records, "sent")
+            Going::of(file, records, "sent").value(alloc, hub, customer)
         }
         Sender::Aborting => json!(in alloc; {"state": "given up"}),
     }
 }
 
 /// A file that goes out: how many of its records went, and how far it is.
-fn going_value(
-    alloc: Global,
-    hub: &Hub,
-    customer: u16,
+#[derive(Drop)]
+struct Going<'a> {
     file: FileId,
     sent: u32,
-    state: &str,
-) -> Result<Value, AllocError>
-    ensures { IfOk result (λ value. view value
-        ≡ going_data (part customer hub.now).customer.spool file sent state.now) }
-{
-    let name = going_name(alloc, hub, customer, file)?;
-    let records = hub.record_count(customer, file);
-    json!(in alloc; {"name": name, "records": records, "sent": sent, "state": state})
+    state: &'a str,
+}
+
+impl<'a> Going<'a> {
+    fn of(file: FileId, sent: u32, state: &'a str) -> Going<'a>
+        ensures file { result.file ≡ file }
+        ensures sent { result.sent ≡ sent }
+        ensures state { result.state.now ≡ state.now }
+    {
+        Going { file, sent, state }
+    }
+
+    /// What is told of it, among a customer's files.
+    fn value(&self, alloc: Global, hub: &Hub, customer: u16) -> Result<Value, AllocError>
+        ensures { IfOk result (λ value. view value
+            ≡ going_data (part customer hub.now).customer.spool self.now.file self.now.sent self.now.state.now) }
+    {
+        let name = going_name(alloc, hub, customer, self.file)?;
+        let records = hub.record_count(customer, self.file);
+        json!(in alloc; {"name": name, "records": records, "sent": self.sent, "state": self.state})
+    }
 }
 
 /// The name of a file that goes out; null once it has left.
@@ -329,9 +341,8 @@ fn told_line(
 /// The lines of a page.
 fn line_values(
     alloc: Global,
-    hub: &Hub,
+    views: &Views<'_>,
     named: &[NamedLine],
-    lines: &[LineView],
     customer: u16,
     page: Page,
 ) -> Result<Vec<Value>, AllocError>
@@ -339,7 +350,7 @@ fn line_values(
     requires within { page.end ≤ length named.now }
     requires few { length named.now < 2 ^ 16 }
     ensures { IfOk result (λ values. map view values.items
-        ≡ lines_told_from named.now customer (part customer hub.now) lines.now page) }
+        ≡ lines_told_from named.now customer (part customer views.now.hub.now) views.now.lines.now page) }
 {
     let mut values = Vec::new(alloc);
     for number in page.first..page.end {
@@ -347,7 +358,7 @@ fn line_values(
             customer,
             number: number as u16,
         };
-        values.push(told_line(alloc, hub, id, named, lines)?)?;
+        values.push(told_line(alloc, views.hub, id, named, views.lines)?)?;
     }
     Ok(values)
 }
@@ -366,20 +377,18 @@ pub(crate) fn lines_at(tables: &Tables, place: usize) -> &[NamedLine]
 /// from. Out of memory is the only refusal.
 pub(crate) fn lines_value(
     alloc: Global,
-    hub: &Hub,
-    tables: &Tables,
-    lines: &[LineView],
+    views: &Views<'_>,
     customer: u16,
     from: u64,
 ) -> Result<Value, AllocError>
-    requires { customer < length tables.now.customers }
-    ensures { IfOk result (λ value. view value
-        ≡ lines_data (customer_at tables.now customer) customer (part customer hub.now) lines.now from) }
+    requires { customer < length views.now.tables.now.customers }
+    ensures { IfOk result (λ value. view value ≡ lines_data (customer_at views.now.tables.now customer) customer
+        (part customer views.now.hub.now) views.now.lines.now from) }
 {
-    let named = lines_at(tables, usize::from(customer));
+    let named = lines_at(views.tables, usize::from(customer));
     let page = Page::of(from, LINES, named.len());
-    let name = name_text(alloc, tables.customer(customer).name())?;
-    let told = Value::Array(line_values(alloc, hub, named, lines, customer, page)?);
+    let name = name_text(alloc, views.tables.customer(customer).name())?;
+    let told = Value::Array(line_values(alloc, views, named, customer, page)?);
     let next = page.next(0, named.len());
     json!(in alloc; {"customer": name, "lines": told, "next": next})
 }

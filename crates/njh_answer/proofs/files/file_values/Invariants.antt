@@ -8,5 +8,6 @@ use Rattle.njh_answer.proofs.files.file_values.Given as goal
 abbrev pub invariant-loop-index : goal.invariant-loop-index
 invariant-loop-index l =
     map view l.values.items
-    ≡ map (file_entry l.lines (part l.customer l.hub).customer.entry (seen_of l.customer l.arrivals))
-    (take (l.index - l.fn.page.first) (drop l.fn.page.first (part l.customer l.hub).customer.spool.whole))
+    ≡ map (file_entry l.lines (part l.customer l.views.hub.now).customer.entry
+    (seen_of l.customer l.views.arrivals.now))
+    (take (l.index - l.fn.page.first) (drop l.fn.page.first (part l.customer l.views.hub.now).customer.spool.whole))

@@ -7,5 +7,5 @@ use Rattle.njh_answer.proofs.lines.line_values.Given as goal
 
 abbrev pub invariant-loop-number : goal.invariant-loop-number
 invariant-loop-number l =
-    map view l.values.items ≡ map (line_told l.named l.customer (part l.customer l.hub) l.lines)
+    map view l.values.items ≡ map (line_told l.named l.customer (part l.customer l.views.hub.now) l.views.lines.now)
     (range_with_len l.fn.page.first (l.number - l.fn.page.first))
