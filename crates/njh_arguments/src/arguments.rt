@@ -125,9 +125,7 @@ pub fn request_of<'a, S: AsStr>(alloc: Global, arguments: &'a [S]) -> Result<Req
     ensures refused { IfErr result (AreRefusedBy (map S.text arguments.entry.now)) }
 {
     let mut program = program_command(alloc)?;
-    let request = request_by(alloc, &mut program, arguments);
-    drop(program);
-    request
+    request_by(alloc, &mut program, arguments)
 }
 
 /// What the arguments ask of the program.
@@ -142,9 +140,7 @@ fn request_by<'a, S: AsStr>(
     ensures refused { IfErr result (AreRefusedBy (map S.text arguments.entry.now)) }
 {
     let found = matches_of(program, arguments)?;
-    let request = request_in(&found);
-    drop(found);
-    match request {
+    match request_in(&found) {
         Ok(request) => Ok(request),
         Err(why) => Err(refusal_of(alloc, program, why)?),
     }
@@ -155,15 +151,6 @@ pub fn not_utf8(alloc: Global) -> Result<Error, AllocError>
     ensures { IfOk result (λ error. kind_of error ≡ ErrorKind.InvalidValue) }
 {
     let mut program = program_command(alloc)?;
-    let refusal = not_utf8_by(&mut program);
-    drop(program);
-    refusal
-}
-
-/// The program's refusal of arguments that are no UTF-8.
-fn not_utf8_by(program: &mut Command<'_>) -> Result<Error, AllocError>
-    ensures { IfOk result (λ error. kind_of error ≡ ErrorKind.InvalidValue) }
-{
     program.error(ErrorKind::InvalidValue, "an argument is not UTF-8")
 }
 

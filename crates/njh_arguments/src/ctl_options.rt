@@ -81,9 +81,7 @@ fn refusal_with(alloc: Global, usage: &str, message: &str) -> Result<Error, Allo
     ensures { IfOk result (λ error. kind_of error ≡ ErrorKind.InvalidSubcommand) }
 {
     let mut ctl = Command::new(alloc, "ctl").override_usage(usage);
-    let refusal = ctl.error(ErrorKind::InvalidSubcommand, message);
-    drop(ctl);
-    refusal
+    ctl.error(ErrorKind::InvalidSubcommand, message)
 }
 
 /// How the command is written of which the first word is this.
