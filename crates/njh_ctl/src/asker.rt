@@ -158,13 +158,8 @@ impl<S: Read + Write + Drop, M: Machine<S> + Drop> Asker<S, M> {
         ensures why { IfErr result (λ fault. IsWhy fault self.new) }
     {
         let mut names = Vec::new(self.alloc);
-        match self.gather_names(&mut names) {
-            Ok(()) => Ok(names),
-            Err(fault) => {
-                drop(names);
-                Err(fault)
-            }
-        }
+        self.gather_names(&mut names)?;
+        Ok(names)
     }
 
     fn gather_names(&mut self, names: &mut Vec<String>) -> Result<(), CtlFault>
@@ -205,13 +200,8 @@ impl<S: Read + Write + Drop, M: Machine<S> + Drop> Asker<S, M> {
         ensures why { IfErr result (λ fault. IsWhy fault self.new) }
     {
         let mut entries = Vec::new(self.alloc);
-        match self.gather_entries(customer, filter, &mut entries) {
-            Ok(()) => Ok(entries),
-            Err(fault) => {
-                drop(entries);
-                Err(fault)
-            }
-        }
+        self.gather_entries(customer, filter, &mut entries)?;
+        Ok(entries)
     }
 
     fn gather_entries(
@@ -259,15 +249,8 @@ fn asked_of(alloc: Global, reply: ReplyText) -> Result<Asked, CtlFault>
     ensures done { IfOk result (IsAskedOf (reply_view reply)) }
     ensures fault { IfErr result IsPlain }
 {
-    match understood(alloc, &reply) {
-        Ok(Heard::Value(value)) => Ok(Asked::Answered(Answer { reply, value })),
-        Ok(Heard::Refused(refusal)) => {
-            drop(reply);
-            Ok(Asked::Refused(refusal))
-        }
-        Err(fault) => {
-            drop(reply);
-            Err(fault)
-        }
+    match understood(alloc, &reply)? {
+        Heard::Value(value) => Ok(Asked::Answered(Answer { reply, value })),
+        Heard::Refused(refusal) => Ok(Asked::Refused(refusal)),
     }
 }

@@ -52,18 +52,9 @@ impl CtlFault {
         ensures asked { (moment : ℕ) → (link : Link) → IsAskedWhy moment self link → IsAskedWhy moment result link }
     {
         match self {
-            CtlFault::NotDone(why) => {
-                drop(name);
-                CtlFault::NotDone(why)
-            }
-            CtlFault::Untold(why) => {
-                drop(name);
-                CtlFault::Untold(why)
-            }
-            other => {
-                drop(other);
-                CtlFault::Lost(name)
-            }
+            CtlFault::NotDone(why) => CtlFault::NotDone(why),
+            CtlFault::Untold(why) => CtlFault::Untold(why),
+            _ => CtlFault::Lost(name),
         }
     }
 
@@ -72,14 +63,8 @@ impl CtlFault {
         ensures { (link : Link) → IsWhy self link → IsWhy result link }
     {
         match self {
-            CtlFault::Untold(why) => {
-                drop(name);
-                CtlFault::Untold(why)
-            }
-            other => {
-                drop(other);
-                CtlFault::CutOff(name)
-            }
+            CtlFault::Untold(why) => CtlFault::Untold(why),
+            _ => CtlFault::CutOff(name),
         }
     }
 }

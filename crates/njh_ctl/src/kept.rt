@@ -20,13 +20,8 @@ pub(crate) fn kept_of(
     ensures fault { IfErr result IsPlain }
 {
     let mut kept = Vec::new(alloc);
-    match add_kept(list, items, &mut kept) {
-        Ok(()) => Ok(kept),
-        Err(fault) => {
-            drop(kept);
-            Err(fault)
-        }
-    }
+    add_kept(list, items, &mut kept)?;
+    Ok(kept)
 }
 
 fn add_kept(list: PartedList<'_>, items: &[Value], kept: &mut Vec<Value>) -> Result<(), CtlFault>
@@ -68,10 +63,6 @@ pub(crate) fn part_text(
             put(&mut members, alloc, key, Value::Array(kept))?;
             Ok(Value::Object(members).to_string(alloc)?)
         }
-        part => {
-            drop(part);
-            drop(kept);
-            Err(CtlFault::NotUnderstood)
-        }
+        _ => Err(CtlFault::NotUnderstood),
     }
 }

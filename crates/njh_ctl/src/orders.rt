@@ -102,7 +102,6 @@ fn gone_by(ends_service: bool, fault: CtlFault) -> Result<Given, CtlFault>
     ensures fault { IfErr result (λ why. why ≡ fault) }
 {
     if ends_service && is_gone(&fault) {
-        drop(fault);
         Ok(Given::Ended(Ending::Done))
     } else {
         Err(fault)

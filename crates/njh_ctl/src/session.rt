@@ -96,13 +96,8 @@ impl<S: Read + Write + Drop> Session<S> {
             status: 0,
             body: Vec::new(alloc),
         };
-        match self.fill(&mut reply) {
-            Ok(()) => Ok(reply),
-            Err(fault) => {
-                drop(reply);
-                Err(fault)
-            }
-        }
+        self.fill(&mut reply)?;
+        Ok(reply)
     }
 
     /// Reads until the answer is whole.

@@ -201,7 +201,6 @@ impl Teller {
         if self.json {
             self.tell_kept(list, answer, kept)
         } else {
-            drop(answer);
             self.tell_rows(list, kept)
         }
     }
@@ -219,14 +218,9 @@ impl Teller {
     {
         let Answer { reply, value } = answer;
         if !list.is_filtered() {
-            drop(value);
-            drop(kept);
             return self.tell_body(reply.body.as_slice());
         }
-        drop(reply);
         if kept.is_empty() {
-            drop(value);
-            drop(kept);
             return Ok(());
         }
         let text = part_text(self.alloc, value, list.key(), kept)?;
@@ -240,9 +234,7 @@ impl Teller {
         ensures fault { IfErr result IsPlain }
     {
         let mut text = String::new(self.alloc);
-        let shown = list.show(self.alloc, kept.as_slice(), &mut text);
-        drop(kept);
-        shown?;
+        list.show(self.alloc, kept.as_slice(), &mut text)?;
         self.tell(text.as_str())
     }
 }
