@@ -1,6 +1,6 @@
 //! Who asks for a line over TCP/IP, and who is given it.
 
-ghost use Rattle.std.specs.Prelude.{◌≡◌, ◌≤◌, ◌⊎◌, Some, IsTrue, slice_get};
+ghost use Rattle.std.specs.Prelude.{◌≡◌, ◌≤◌, ◌⊎◌, Some, IfSome, IsTrue, slice_get};
 ghost use Rattle.njh_wire.specs.Tally.{tally};
 ghost use Rattle.njh_anteroom.specs.declared.guest.Guest.{Guest};
 ghost use Rattle.njh_sites.specs.declared.asking.Asking.{Asking};
@@ -22,6 +22,7 @@ use njh_sight::Label;
 use njh_sites::{Asking, Heard, keeps_line};
 use njh_table::Role;
 use njh_wire::{Connection, LineWire, Network, Saying};
+use std::alloc::Global;
 use std::io::Write;
 
 /// Hears each who waits for a line over TCP/IP, once, and gives the line to whose OPEN names it, if
@@ -199,50 +200,37 @@ fn give<N: Network + Drop, L: Write + Drop>(
         IsGivenByTcp N.Connection.over_tcp Role.Answer guest.connection.connection wire.old wire.new }
 {
     let address = guest.address;
-    let guest = without_open(guest);
-    if !connect_by_tcp(surroundings, entrance, label, wire, guest, Role::Answer) {
+    let Some(guest) = over_tcp(surroundings.alloc, without_open(guest), Role::Answer) else {
+        return false;
+    };
+    if !connect(surroundings, entrance, label, wire, guest) {
         return false;
     }
     tell_connected(surroundings, label, LogEvent::ConnectedFrom(address));
     true
 }
 
-/// Gives a line over TCP/IP a connection of its own, on which the hub has this role, and answers
-/// whether it did: one of another line is dropped, and one for which there is no memory.
-pub(crate) fn connect_by_tcp<N: Network + Drop, L: Write + Drop>(
-    surroundings: &mut Surroundings<N, L>,
-    entrance: &mut Entrance<Asking<N::Connection>>,
-    label: &mut Label,
-    wire: &mut LineWire<N::Connection>,
-    guest: Guest<N::Connection>,
+/// A connection that carries the frames of a line over TCP/IP, on which the hub has this role; none
+/// if there is no memory for that.
+pub(crate) fn over_tcp<C: Connection + Drop>(
+    alloc: Global,
+    guest: Guest<C>,
     role: Role,
-) -> bool
-    ensures counts { wire.old.failures ≤ wire.new.failures }
-    ensures tally { tally wire.new ≡ tally wire.old }
-    ensures clock { wire.new.clock ≡ wire.old.clock }
-    ensures now { surroundings.new.now ≡ surroundings.old.now }
-    ensures customers { surroundings.new.customers ≡ surroundings.old.customers }
-    ensures from { entrance.new.from ≡ entrance.old.from }
-    ensures waiting { entrance.new.anteroom.waiting ≡ entrance.old.anteroom.waiting }
-    ensures kept { ¬ IsTrue result → wire.new ≡ wire.old }
-    ensures given { IsTrue result →
-        IsGivenByTcp N.Connection.over_tcp role guest.connection wire.old wire.new }
+) -> Option<Guest<C>>
+    ensures { IfSome result (λ made. C.over_tcp role guest.connection made.connection) }
 {
     let Guest {
         connection,
         address,
         since,
     } = guest;
-    match connection.by_tcp(surroundings.alloc, role) {
-        Ok(connection) => {
-            let guest = Guest {
-                connection,
-                address,
-                since,
-            };
-            connect(surroundings, entrance, label, wire, guest)
-        }
-        Err(_) => false,
+    match connection.by_tcp(alloc, role) {
+        Ok(connection) => Some(Guest {
+            connection,
+            address,
+            since,
+        }),
+        Err(_) => None,
     }
 }
 

@@ -138,7 +138,6 @@ fn receive<N: Network + Drop, L: Write + Drop>(
         surroundings.old.now connection entrance.old }
 {
     if !entrance.from.allows(address.ip()) {
-        drop(connection);
         entrance.not_allowed.note();
         return;
     }

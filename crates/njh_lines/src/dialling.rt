@@ -7,7 +7,7 @@ ghost use Rattle.njh_sites.specs.Dialling.{connection_in, dial_moment, failed, g
 ghost use Rattle.njh_lines.specs.Asking.{IsGivenByAck, IsJoined};
 ghost use Rattle.njh_lines.specs.Connecting.{place_of};
 
-use crate::asking::connect_by_tcp;
+use crate::asking::over_tcp;
 use crate::connecting::{connect, tell_connected};
 use crate::entrance::Entrance;
 use crate::surroundings::Surroundings;
@@ -186,7 +186,10 @@ fn join_by_tcp<N: Network + Drop, L: Write + Drop>(
         address,
         since: surroundings.now,
     };
-    if !connect_by_tcp(surroundings, entrance, label, wire, guest, Role::Call) {
+    let Some(guest) = over_tcp(surroundings.alloc, guest, Role::Call) else {
+        return;
+    };
+    if !connect(surroundings, entrance, label, wire, guest) {
         return;
     }
     tell_connected(surroundings, label, LogEvent::ConnectedTo(address));

@@ -114,22 +114,7 @@ impl<N: Network + Drop, L: Write + Drop> Exchange<N, L> {
 
     /// Its log, where it attends no more.
     pub fn into_log(self) -> Log<L> {
-        let Exchange {
-            surroundings,
-            posts,
-            ready,
-            watches,
-            groups,
-            arrivals,
-            queues,
-            ..
-        } = self;
-        drop(queues);
-        drop(posts);
-        drop(ready);
-        drop(watches);
-        drop(groups);
-        drop(arrivals);
+        let Exchange { surroundings, .. } = self;
         surroundings.into_log()
     }
 
@@ -230,7 +215,9 @@ impl<N: Network + Drop, L: Write + Drop> Exchange<N, L> {
     }
 
     /// What is kept of each customer.
-    pub fn customers(&self) -> &Customers {
+    pub fn customers(&self) -> &Customers
+        ensures { result.now ≡ self.now.customers }
+    {
         &self.surroundings.customers
     }
 

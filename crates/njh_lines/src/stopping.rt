@@ -110,10 +110,7 @@ fn let_go<N: Network + Drop, L: Write + Drop>(
     ensures address { N.address_of listener.new ≡ N.address_of listener.old }
 {
     match surroundings.network.accept(listener) {
-        Ok(Some((connection, _address))) => {
-            drop(connection);
-            Admission::Taken
-        }
+        Ok(Some(_)) => Admission::Taken,
         Ok(None) => Admission::NobodyWaits,
         Err(_) => Admission::NotTaken,
     }

@@ -45,12 +45,9 @@ impl<N: Network + Drop, L: Write + Drop> Surroundings<N, L> {
         let Surroundings {
             mut network,
             log,
-            customers,
             ..
         } = self;
         let milliseconds = network.utc();
-        drop(network);
-        drop(customers);
         log.into_log(milliseconds)
     }
 

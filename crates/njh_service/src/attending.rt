@@ -79,11 +79,11 @@ impl<N: Network + Drop, L: Write + Drop, S: TableSource + Drop> Attendant<LineWi
     }
 
     fn prompts(&self, place: usize, hub: &Hub) -> bool {
-        self.prompts(place, hub)
+        self.exchange.prompts(place, hub)
     }
 
     fn stepped(&mut self, place: usize, hub: &Hub, frame: &[u8]) {
-        self.follow(place, hub, frame);
+        self.exchange.follow(place, hub, frame);
     }
 
     fn after(&mut self, hub: &Hub, wires: &mut [LineWire<N::Connection>]) {

@@ -9,7 +9,7 @@ ghost use Rattle.njh_sites.specs.Endpoints.{endpoints_of};
 ghost use Rattle.njh_sites.specs.Opened.{IsApart};
 ghost use Rattle.njh_sight.specs.Waking.{marked, IsRowMade};
 ghost use Rattle.njh_lines.specs.LineStates.{line_settled, AreMade};
-ghost use Rattle.njh_lines.specs.Watching.{served_on, HasNoted, IsToBePrompted};
+ghost use Rattle.njh_lines.specs.Watching.{served_on};
 ghost use Rattle.njh_service.specs.Bureaus.{IsClosed, IsOpenedBy, IsOver};
 
 mod serving_console;
@@ -132,14 +132,7 @@ impl<N: Network + Drop, L: Write + Drop, S: TableSource + Drop> Bureau<N, L, S> 
 
     /// Its log, where it attends no more.
     pub(crate) fn into_log(self) -> Log<L> {
-        let Bureau {
-            exchange,
-            revision,
-            console,
-            ..
-        } = self;
-        drop(revision);
-        drop(console);
+        let Bureau { exchange, .. } = self;
         exchange.into_log()
     }
 
@@ -252,23 +245,6 @@ impl<N: Network + Drop, L: Write + Drop, S: TableSource + Drop> Bureau<N, L, S> 
                 false
             }
         }
-    }
-
-    /// Whether the line at this place, if it rests, is prompted in this round.
-    pub(crate) fn prompts(&self, place: usize, hub: &Hub) -> bool
-        ensures { IsTrue result ↔ IsToBePrompted self.now.exchange place hub.now }
-    {
-        self.exchange.prompts(place, hub)
-    }
-
-    /// Notes what a step on the line at this place left, which sent this frame.
-    pub(crate) fn follow(&mut self, place: usize, hub: &Hub, frame: &[u8])
-        ensures noted { HasNoted self.new.exchange place hub.now frame.now }
-        ensures lines { self.new.exchange.lines ≡ self.old.exchange.lines }
-        ensures console { self.new.console ≡ self.old.console }
-        ensures stop { self.new.stop ≡ self.old.stop }
-    {
-        self.exchange.follow(place, hub, frame);
     }
 
     /// Tells and notes what came of an order. By it the lines of the customer may have something to

@@ -111,11 +111,7 @@ impl<W: Drop, A: Drop, D: Drop> Service<W, A, D> {
                 rounds,
                 attendant,
             }),
-            Err(fault) => {
-                drop(hub);
-                drop(wires);
-                Err((fault, depot, attendant))
-            }
+            Err(fault) => Err((fault, depot, attendant)),
         }
     }
 
@@ -138,15 +134,10 @@ impl<W: Drop, A: Drop, D: Drop> Service<W, A, D> {
         ensures { result.0 ≡ self.depot }
     {
         let Service {
-            hub,
             depot,
-            wires,
-            rounds,
             attendant,
+            ..
         } = self;
-        drop(hub);
-        drop(wires);
-        drop(rounds);
         (depot, attendant)
     }
 }

@@ -92,10 +92,7 @@ pub fn service_on<N: Network + Drop, L: Write + Drop, S: TableSource + Drop, D: 
 {
     match bureau.open_lines(alloc, &tables, listening, needed) {
         Ok(endpoints) => service_of(alloc, depot, tables, &endpoints, bureau),
-        Err(fault) => {
-            drop(tables);
-            Err((fault, depot, bureau))
-        }
+        Err(fault) => Err((fault, depot, bureau)),
     }
 }
 
@@ -148,10 +145,7 @@ fn service_over<N: Network + Drop, L: Write + Drop, S: TableSource + Drop, D: Dr
 {
     let wires = match wires_for(alloc, endpoints) {
         Ok(wires) => wires,
-        Err(_) => {
-            drop(hub);
-            return Err((ServeFault::Memory, depot, bureau));
-        }
+        Err(_) => return Err((ServeFault::Memory, depot, bureau)),
     };
     match Service::new(alloc, hub, depot, endpoints, wires, bureau) {
         Ok(service) => Ok(service),

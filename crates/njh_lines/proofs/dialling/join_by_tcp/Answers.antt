@@ -6,5 +6,9 @@ pub returns-clause-given : goal.returns-clause-given
 returns-clause-given g c = inr record {
   connection = c.in-Some.connection;
   there = sym c.in-Some.ensures.connection;
-  given = c.connect_by_tcp.ensures.given c.if-not-connect_by_tcp.false;
+  given = record {
+    made = c.in-Some-over_tcp.guest.connection;
+    over = c.in-Some-over_tcp.ensures;
+    stands = c.connect.ensures.taken c.if-not-connect.false;
+  };
 }

@@ -2,7 +2,7 @@ use Rattle.std.proofs.Common.{◌↔◌, ap, subst}
 use Rattle.std.specs.Prelude.{IsTrue}
 use Rattle.njh_lines.specs.Watching.{IsToBePrompted, Watched}
 use Rattle.njh_service.specs.Bureaus.{Attended}
-use Rattle.njh_service.proofs.bureau.Bureau.prompts.Goals as goal
+use Rattle.njh_service.proofs.attending.BureauAttendantLineWireConnection.prompts.Goals as goal
 
 -- as its exchange says
 pub returns : goal.returns
