@@ -1,17 +1,18 @@
 -- The hub's whole files beside those that are kept: which were there, and which one is at a place.
 use Rattle.njh_keeper.proofs.Words
-use Words.{◌≡◌, ℕ, zero, suc, ◌+◌, ◌-◌, ◌^◌, ◌<◌, ◌≤◌, ◌==◌, inl, inr, Bool, true, false, cond, List, [], ◌∷◌, ◌++◌}
-use Words.{length, get_or, set, take, Option, Some, None, min, refl, sym, ap, subst, ◌∙◌, arith, cases_lt}
+use Words.{◌≡◌, ◌≢◌, ℕ, zero, suc, ◌+◌, ◌-◌, ◌^◌, ◌<◌, ◌≤◌, ◌==◌, inl, inr, Bool, true, false, cond, List, [], ◌∷◌}
+use Words.{◌++◌, length, get_or, set, remove, take, Option, Some, None, min, refl, sym, ap, subst, ◌∙◌, arith, cases_lt, ⊤}
 use Words.{get_or-take, get_or_default, length-take-le, take_more, AllByRecursion, In, Stored, HasHeaders}
 use Words.{SpoolContents, records_of, contents_in, CustomerSpool, WholeFile, max_arrived, partial_numbered, Ready}
 use Words.{records_in, HaveHeaders, outgoing, Survive, leaves, none, FileSummaryView, file_summary, Part, part}
-use Words.{AreFronts, GoesTo, GoOnIn, IsAt, IsReached, IsStillAt, LeadsFiles, HasFiles, Memory, Remain, Stage}
-use Words.{KeptPartial, one_if, AreNumbered, IsWalkedTo, IsFrontWhere, leads_then, leads_weaker}
+use Words.{AreFronts, GoesTo, GoOnIn, IsAt, IsStillAt, LeadsFiles, HasFiles, Memory, Remain, Stage, KeptPartial}
+use Words.{KeptWhole, one_if, AreNumbered, IsWalkedTo, IsFrontWhere, leads_then, leads_weaker}
 use Rattle.std.{proofs.Common.find, specs.Option.{option_map, option_or}}
 use Rattle.njh_customer.{proofs.SurvivingLaws.first_files, specs.Customer.Customer}
 use Rattle.njh_keeper.proofs.{FollowingLaws.{all_remain, goes_then}, ListLaws.all_both, NumberedLaws.all_weaker}
-use Rattle.njh_keeper.proofs.{NumberedLaws.{equal, all_at}, UsesLaws.keyed_at, WalkLaws.{walk_ends, walk_finds}}
-use Rattle.njh_keeper.{proofs.WalkLaws.walk_goes_on, specs.code.Following.{IsFoundAt, IsHubFile}}
+use Rattle.njh_keeper.proofs.{NumberedLaws.{equal, all_at}, UsesLaws.keyed_at}
+use Rattle.njh_keeper.proofs.WalkLaws.{as_many, kept_at, walk_drops, walk_ends, walk_finds, walk_goes_on}
+use Rattle.njh_keeper.specs.code.Following.{IsHubFile}
 use Rattle.njh_keeper.specs.declared.own_files.HubFile.{HubFile}
 
 pub all_have_gone : (fs : List WholeFile) → Survive fs []
@@ -108,55 +109,56 @@ pub says_more : {a b : Stage} {Given : SpoolContents → List WholeFile → Type
 says_more one more = leads_weaker one (λ s t first files has given.
     let x = first files has given in (x.0, more t files x.0 x.2.has x.1, x.2))
 
-module _ {a b c : Stage} where
-  -- the next one is found, and is what the hub has
-  pub walked_on : (still : List WholeFile) (place number : ℕ) (f : WholeFile) → IsAt still place f → number ≡ f.number
-      → LeadsFiles (λ s files. IsWalkedTo still files place)
-      (λ files now. IsWalkedTo still now place × IsReached (Some number) now place) a b
-      → LeadsFiles (λ s files. IsStillAt files place f) (λ files now. now ≡ set files place f) b c
-      → LeadsFiles (λ s files. IsWalkedTo still files place) (λ files now. IsWalkedTo still now (place + 1)) a c
-  walked_on still place number f next number_is one more =
-      leads_then one more (λ s t u first second files has walk.
-      let x = first files has walk in
-      let found : IsFoundAt number x.0 place = x.1.1 in
-      let same : found.file.number ≡ f.number = found.number_is ∙ number_is in
+-- after the last of them, where none is remembered
+pub walked_to_end : {a b : Stage} {Given : SpoolContents → List WholeFile → Type 0} (still : List WholeFile) (i : ℕ)
+    → length still ≤ i → length b.memory.own.whole ≤ i → LeadsFiles Given (λ files now. IsWalkedTo still now i) a b
+    → LeadsFiles Given (λ files now. now ≡ still) a b
+walked_to_end {a} {b} still i last none_left one =
+    says_more one (λ t files now has walk.
+    let long = as_many b.memory t now has in
+    walk_ends still now i walk last (omega (arith, long, none_left)))
+
+-- the file that is remembered at a place
+module _ {a b c : Stage} {Given : SpoolContents → List WholeFile → Type 0} (still : List WholeFile) (i : ℕ)
+    (one : LeadsFiles Given (λ files now. IsWalkedTo still now i) a b) (k : KeptWhole)
+    (there : i < length b.memory.own.whole) (is : k ≡ get_or b.memory.own.whole i k) where
+  -- is there still, and becomes what the hub has
+  pub walked_on : (f : WholeFile) → IsAt still i f → k.number ≡ f.number
+      → LeadsFiles (λ s files. IsStillAt files i f) (λ files now. now ≡ set files i f) b c
+      → LeadsFiles Given (λ files now. IsWalkedTo still now (i + 1)) a c
+  walked_on f here same more =
+      leads_then one more (λ s t u first second files has given.
+      let x = first files has given in
+      let at = kept_at b.memory t x.0 x.2.has i k there is in
+      let numbers : at.third.number ≡ f.number = sym at.holds.remembers.number ∙ same in
       let y = second x.0 x.2.has (record {
-        before = found.file;
-        is = found.is;
-        still = walk_finds still x.0 place x.1.0 found.file found.there found.is f next.there next.is same;
+        before = at.third;
+        is = at.third_is;
+        still = walk_finds still x.0 i x.1 at.third at.third_there at.third_is f here.there here.is numbers;
       }) in (
         y.0,
-        subst (λ fs. IsWalkedTo still fs (place + 1)) (sym y.1)
-            (walk_goes_on still x.0 place x.1.0 found.file found.there found.is f next.there next.is same),
+        subst (λ fs. IsWalkedTo still fs (i + 1)) (sym y.1)
+            (walk_goes_on still x.0 i x.1 at.third at.third_there at.third_is f here.there here.is numbers),
         goes_then a.memory b.memory c.memory s t u x.0 y.0 x.2 y.2,
       ))
 
-  -- one more is followed
-  pub walked_further : (Given : SpoolContents → List WholeFile → Type 0) (still : List WholeFile) (place index : ℕ)
-      → place ≡ index → LeadsFiles Given (λ files now. IsWalkedTo still now index) a b
-      → LeadsFiles (λ s files. IsWalkedTo still files place) (λ files now. IsWalkedTo still now (place + 1)) b c
-      → LeadsFiles Given (λ files now. IsWalkedTo still now (index + 1)) a c
-  walked_further Given still place index same one more =
+  -- has left
+  pub walked_past : ((f : WholeFile) → IsAt still i f → k.number ≢ f.number)
+      → LeadsFiles (λ s files. ⊤) (λ files now. now ≡ remove files i) b c
+      → LeadsFiles Given (λ files now. IsWalkedTo still now i) a c
+  walked_past other more =
       leads_then one more (λ s t u first second files has given.
       let x = first files has given in
-      let y = second x.0 x.2.has (subst (IsWalkedTo still x.0) (sym same) x.1) in (
+      let at = kept_at b.memory t x.0 x.2.has i k there is in
+      let y = second x.0 x.2.has tt in (
         y.0,
-        subst (λ n. IsWalkedTo still y.0 (n + 1)) same y.1,
+        subst (λ fs. IsWalkedTo still fs i) (sym y.1)
+            (walk_drops still x.0 i x.1 at.third at.third_there at.third_is
+            (λ f here same. other f here (at.holds.remembers.number ∙ same))),
         goes_then a.memory b.memory c.memory s t u x.0 y.0 x.2 y.2,
       ))
 
-  -- after the last one all others have left
-  pub walked_to_end : (Given : SpoolContents → List WholeFile → Type 0) (still : List WholeFile) (place index : ℕ)
-      → place ≡ index → length still ≤ place → LeadsFiles Given (λ files now. IsWalkedTo still now index) a b
-      → LeadsFiles (λ s files. IsWalkedTo still files place)
-      (λ files now. IsWalkedTo still now place × IsReached None now place) b c
-      → LeadsFiles Given (λ files now. now ≡ still) a c
-  walked_to_end Given still place index same last one more =
-      leads_then one more (λ s t u first second files has given.
-      let x = first files has given in
-      let y = second x.0 x.2.has (subst (IsWalkedTo still x.0) (sym same) x.1) in
-      (y.0, walk_ends still y.0 place y.1.0 last y.1.1, goes_then a.memory b.memory c.memory s t u x.0 y.0 x.2 y.2))
-
+module _ {a b c : Stage} where
   -- one more is added
   pub added_further : (whole : List WholeFile) (before index : ℕ) (f : WholeFile) → IsAt whole index f
       → LeadsFiles (λ s files. (files ≡ take before whole) × AreFronts s a.memory.own.partial whole)

@@ -138,7 +138,7 @@ module _ (m : Memory) (i : ℕ) (k : KeptWhole) (there : i < length m.own.whole)
     destination_is : summary.destination ≡ said_destination g.kind g.records
     destination_is = ap (λ (x : FileSummaryView). x.destination) summary_is
 
-    abbrev pub now_rewritten : KeptWhole
+    abbrev now_rewritten : KeptWhole
     now_rewritten = record k {
       state = summary.state;
       destination = summary.destination;
@@ -146,8 +146,16 @@ module _ (m : Memory) (i : ℕ) (k : KeptWhole) (there : i < length m.own.whole)
       is_sent = is_name summary.destination.node;
     }
 
-    abbrev pub now_kept : KeptWhole
+    abbrev now_kept : KeptWhole
     now_kept = record k { state = summary.state }
+
+    -- whether it was sent elsewhere, and what is remembered of it then
+    pub record IsDecided (sent_on : Bool) (now : KeptWhole) : Type 0 where
+      pub rewritten : sent_on ≡ true → now ≡ now_rewritten
+      pub still : sent_on ≡ false → now ≡ now_kept
+      pub one : sent_on ≡ true → k.destination ≡ summary.destination → AreOne (named_nodes None g.records)
+      pub same : sent_on ≡ false → k.destination ≡ summary.destination
+      pub several : sent_on ≡ false → k.is_mixed ≡ true → AreOne (named_nodes None g.records) → ⊥
 
     module _ (s : SpoolContents) (files : List WholeFile) (has : HasFiles m s files)
         (before : IsStillAt files i g) where
@@ -170,7 +178,7 @@ module _ (m : Memory) (i : ℕ) (k : KeptWhole) (there : i < length m.own.whole)
       its_row b row = subst (λ x. IsRowFor m.text k.key b x row) summary_is
 
       -- its row says that it was sent elsewhere
-      pub rewritten_goes : (k.destination ≡ summary.destination → AreOne (named_nodes None g.records))
+      rewritten_goes : (k.destination ≡ summary.destination → AreOne (named_nodes None g.records))
           → (row : File) → IsRowFor m.text k.key now_rewritten.is_sent summary row
           → GoesTo m (memory_changed now_rewritten) s (with_changed k.id row s) (set files i g)
       rewritten_goes one row is_row =
@@ -207,16 +215,40 @@ module _ (m : Memory) (i : ℕ) (k : KeptWhole) (there : i < length m.own.whole)
         }
 
         -- nothing was written
-        pub kept_goes : is_held summary.state ≡ is_held k.state → GoesTo m (memory_changed now_kept) s s (set files i g)
+        kept_goes : is_held summary.state ≡ is_held k.state → GoesTo m (memory_changed now_kept) s s (set files i g)
         kept_goes held =
             state_goes now_kept refl refl s files has g before headers remembers_kept refl
             (ap is_held (sym state_is) ∙ held ∙ ap is_held kept.remembers.state) as_was
 
         -- its row was written anew
-        pub held_goes : (row : File) → IsRowFor m.text k.key k.is_sent summary row
+        held_goes : (row : File) → IsRowFor m.text k.key k.is_sent summary row
             → GoesTo m (memory_changed now_kept) s (with_changed k.id row s) (set files i g)
         held_goes row is_row =
             row_goes now_kept refl refl s files has g before headers remembers_kept row (its_row k.is_sent row is_row)
             (still_stored s k.key g.kind text g.records
             (subst (λ rs. IsStored s k.key g.kind text rs) (sym as_was) (its_kind kept.stored))
             headers.destination headers.goes k.is_sent kept.sent)
+
+      -- ---- by what was decided
+
+      -- its row is written anew
+      pub row_changes : (sent_on : Bool) (now : KeptWhole) → IsDecided sent_on now → (row : File)
+          → IsRowFor m.text now.key now.is_sent summary row
+          → GoesTo m (memory_changed now) s (with_changed now.id row s) (set files i g)
+      row_changes true now is row =
+          subst (λ (x : KeptWhole). IsRowFor m.text x.key x.is_sent summary row
+          → GoesTo m (memory_changed x) s (with_changed x.id row s) (set files i g)) (sym (is.rewritten refl))
+          (rewritten_goes (is.one refl) row)
+      row_changes false now is row =
+          subst (λ (x : KeptWhole). IsRowFor m.text x.key x.is_sent summary row
+          → GoesTo m (memory_changed x) s (with_changed x.id row s) (set files i g)) (sym (is.still refl))
+          (held_goes (is.same refl) (is.several refl) row)
+
+      -- it stays
+      pub row_stays : (sent_on : Bool) (now : KeptWhole) → IsDecided sent_on now → sent_on ≡ false
+          → is_held now.state ≡ is_held k.state → GoesTo m (memory_changed now) s s (set files i g)
+      row_stays true now is never = absurd (cc never)
+      row_stays false now is _ =
+          subst (λ (x : KeptWhole). is_held x.state ≡ is_held k.state
+          → GoesTo m (memory_changed x) s s (set files i g)) (sym (is.still refl))
+          (kept_goes (is.same refl) (is.several refl))

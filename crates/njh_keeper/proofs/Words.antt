@@ -51,7 +51,7 @@ pub use Rattle.njh_keeper.specs.code.{Gathering.Writes, Apart.{AreFilesApart, ha
 pub use Rattle.njh_spoolfile.specs.Sent.{as_stored, is_sent, kind_of_word, kind_word, records_now, with_mark}
 pub use Rattle.njh_keeper.specs.code.{Remembered.IsStored, Shown.field_text}
 pub use Rattle.njh_keeper.specs.code.Following.{AddsRow, AreFronts, claim_of, GoesTo, GoOnIn, HasFiles, IsAt}
-pub use Rattle.njh_keeper.specs.code.Following.{IsFrontOf, IsFrontWhere, IsQuiet, IsReached, IsRowFor, IsStillAt}
+pub use Rattle.njh_keeper.specs.code.Following.{IsFrontOf, IsFrontWhere, IsQuiet, IsRowFor, IsStillAt}
 pub use Rattle.njh_keeper.specs.code.Following.{LeadsFiles, Memory, memory_of, Stage, stage_of}
 pub use Rattle.njh_keeper.specs.code.{Following.Remain, Knowing.{AreNamedApart, HasOwn, HasSpool, IsSoundPart, Knows}}
 pub use Rattle.njh_keeper.specs.code.{Knowing.{LeadsStep, StepGoes}, Leading.Leads, Memory.{numbers_of, own_memory_of}}

@@ -1,15 +1,17 @@
-//! A customer's whole files are kept as a step left them.
+//! A customer's whole files are kept as a step left them: each one that is remembered has left and
+//! is dropped, or is followed, and behind these are added those that came.
 
-ghost use Rattle.std.specs.Prelude.{◌≡◌, ◌<◌, ◌≤◌, ◌+◌, ◌-◌, ◌^◌, true, List, length, min, remove, take, ⊤, OnOk};
+ghost use Rattle.std.specs.Prelude.{◌≡◌, ◌<◌, ◌≤◌, ◌-◌, ◌^◌, true, length, min, remove, set, take, ⊤, OnOk};
 ghost use Rattle.njh_customer.specs.Surviving.{Survive};
 ghost use Rattle.njh_hub.specs.WholeHub.{part};
 ghost use Rattle.njh_spool.specs.CustomerSpool.{WholeFile, max_arrived};
 ghost use Rattle.njh_spoolfile.specs.Shelf.{shown};
 ghost use Rattle.sqlite.specs.State.{HasCleanDisk, Survives};
 ghost use Rattle.njh_keeper.specs.code.Counting.{Grows, rows_of};
-ghost use Rattle.njh_keeper.specs.code.Following.{AreFronts, GoOnIn, IsAt, IsQuiet, IsReached, LeadsFiles, stage_of};
+ghost use Rattle.njh_keeper.specs.code.Following.{AreFronts, GoOnIn, IsAt, IsQuiet, IsSought, IsStillAt};
+ghost use Rattle.njh_keeper.specs.code.Following.{LeadsFiles, stage_of};
 ghost use Rattle.njh_keeper.specs.code.Memory.{own_of};
-ghost use Rattle.njh_keeper.specs.code.Walking.{AreNumbered, IsWalkedTo};
+ghost use Rattle.njh_keeper.specs.code.Walking.{AreNumbered};
 
 use crate::adding::add_one;
 use crate::own_files::{HubFile, OwnFiles};
@@ -17,7 +19,6 @@ use crate::rewriting::follow_one;
 use crate::sweeping::sweep_later;
 use crate::writer::{SpoolWriter, astray};
 use njh_hub::Hub;
-use njh_spool::FileId;
 use sqlite::{Alter, Error};
 
 /// Keeps a customer's whole files as a hub has them now: those that came are added, those that left
@@ -52,7 +53,7 @@ pub(crate) fn follow<S: Alter + Drop>(
     Ok(())
 }
 
-/// Follows the first so many files, which were there, and takes out each other one.
+/// Follows the first so many files of the hub, which were there, and takes out each other one.
 fn follow_old<S: Alter + Drop>(
     writer: &mut SpoolWriter<S>,
     own: &mut OwnFiles,
@@ -71,43 +72,59 @@ fn follow_old<S: Alter + Drop>(
     ensures quiet { OnOk result (IsQuiet writer.old writer.new) }
     ensures crash { Survives (shown S.Store writer.old.store) (shown S.Store writer.new.store) (λ _. ⊥) }
 {
-    let mut place = 0;
-    for index in 0..old {
-        follow_at(writer, own, place, hub, customer, index)?;
-        place += 1;
+    let mut index = 0;
+    while (index as usize) < own.whole.len() {
+        if is_there(own, hub, customer, index, old) {
+            follow_at(writer, own, hub, customer, index)?;
+            index += 1;
+        } else {
+            drop_at(writer, own, index as usize)?;
+        }
     }
-    drop_before(writer, own, place, None)
+    if index < old {
+        return Err(astray());
+    }
+    Ok(())
 }
 
-/// Finds the file that is at this index in the hub, from a place on, and follows it.
+/// Whether the file that is remembered at this index is the hub's there, among the first so many.
+fn is_there(own: &OwnFiles, hub: &Hub, customer: u16, index: u32, old: u32) -> bool
+    requires within { index < length own.now.whole.items }
+    requires were { old ≤ length (part customer hub.now).customer.spool.whole }
+    ensures low { result ≡ true → index < old }
+    ensures sought { IsSought (own_of own.now).whole (take old (part customer hub.now).customer.spool.whole) index
+        result }
+{
+    let number = own.whole[index as usize].number;
+    if index >= old {
+        return false;
+    }
+    number == hub.number_at(customer, index)
+}
+
+/// Follows the file that is remembered at this index, and is the hub's there.
 fn follow_at<S: Alter + Drop>(
     writer: &mut SpoolWriter<S>,
     own: &mut OwnFiles,
-    place: usize,
     hub: &Hub,
     customer: u16,
     index: u32,
 ) -> Result<(), Error>
-    requires { index < length (part customer hub.now).customer.spool.whole }
-    ensures led { (still : List WholeFile) → (f : WholeFile)
-        → AreNumbered (part customer hub.now).customer.spool.whole
-        → IsAt (part customer hub.now).customer.spool.whole index f → IsAt still place f
-        → HasCleanDisk (shown S.Store writer.new.store)
-        → OnOk result (LeadsFiles (λ s files. IsWalkedTo still files place)
-        (λ files now. IsWalkedTo still now (place + 1))
+    requires within { index < length own.old.whole.items }
+    requires there { index < length (part customer hub.now).customer.spool.whole }
+    ensures led { (f : WholeFile) → AreNumbered (part customer hub.now).customer.spool.whole
+        → IsAt (part customer hub.now).customer.spool.whole index f → HasCleanDisk (shown S.Store writer.new.store)
+        → OnOk result (LeadsFiles (λ s files. IsStillAt files index f) (λ files now. now ≡ set files index f)
         (stage_of S.Store writer.old own.old) (stage_of S.Store writer.new own.new)) }
+    ensures long { length own.new.whole.items ≡ length own.old.whole.items }
     ensures grows { OnOk result (Grows writer.old own.old writer.new own.new) }
     ensures quiet { OnOk result (IsQuiet writer.old writer.new) }
     ensures crash { Survives (shown S.Store writer.old.store) (shown S.Store writer.new.store) (λ _. ⊥) }
 {
     let number = hub.number_at(customer, index);
-    drop_before(writer, own, place, Some(number))?;
-    if place >= own.whole.len() {
-        return Err(astray());
-    }
     let summary = hub.summary_at(customer, index);
     let file = HubFile { customer, number };
-    follow_one(writer, own, place, hub, &file, &summary)
+    follow_one(writer, own, index as usize, hub, &file, &summary)
 }
 
 /// Adds the files from this index on, which became whole.
@@ -148,32 +165,6 @@ fn new_files(before: u64, now: u64) -> u32
         return u32::MAX;
     }
     u32::try_from(now.saturating_sub(before)).unwrap_or(u32::MAX)
-}
-
-/// Takes out the files that stood from a place on before the one of this number; all if none is
-/// given.
-fn drop_before<S: Alter + Drop>(
-    writer: &mut SpoolWriter<S>,
-    own: &mut OwnFiles,
-    place: usize,
-    number: Option<FileId>,
-) -> Result<(), Error>
-    ensures led { (still : List WholeFile) → IsReached number still place
-        → HasCleanDisk (shown S.Store writer.new.store)
-        → OnOk result (LeadsFiles (λ s files. IsWalkedTo still files place)
-        (λ files now. IsWalkedTo still now place × IsReached number now place)
-        (stage_of S.Store writer.old own.old) (stage_of S.Store writer.new own.new)) }
-    ensures grows { OnOk result (Grows writer.old own.old writer.new own.new) }
-    ensures quiet { OnOk result (IsQuiet writer.old writer.new) }
-    ensures crash { Survives (shown S.Store writer.old.store) (shown S.Store writer.new.store) (λ _. ⊥) }
-{
-    for _ in 0..own.whole.len() {
-        if place >= own.whole.len() || Some(own.whole[place].number) == number {
-            return Ok(());
-        }
-        drop_at(writer, own, place)?;
-    }
-    Ok(())
 }
 
 /// Takes out the file at a place. Its records are dropped step by step.

@@ -1,13 +1,13 @@
 //! What changed of a whole file that was kept before is written anew.
 
-ghost use Rattle.std.specs.Prelude.{◌≡◌, ◌<◌, true, false, None, get_or, length, set, string_bytes, OnOk};
+ghost use Rattle.std.specs.Prelude.{◌≡◌, ◌<◌, true, false, None, length, set, string_bytes, OnOk};
+ghost use Rattle.njh_ebcdic.specs.Names.{is_name};
 ghost use Rattle.njh_stream.specs.SpoolFiles.{records_in};
 ghost use Rattle.njh_hub.specs.WholeHub.{part};
 ghost use Rattle.njh_turns.specs.Keeping.{is_held};
 ghost use Rattle.njh_spool.specs.CustomerSpool.{WholeFile};
 ghost use Rattle.njh_spoolfile.specs.Shelf.{shown};
 ghost use Rattle.sqlite.specs.State.{HasCleanDisk, Survives};
-ghost use Rattle.njh_keeper.specs.declared.own_files.KeptWhole.{KeptWhole};
 ghost use Rattle.njh_keeper.specs.code.Counting.{Grows};
 ghost use Rattle.njh_keeper.specs.code.Following.{ChangesRow, IsHubFile, IsQuiet, IsStillAt, LeadsFiles, stage_of};
 ghost use Rattle.njh_keeper.specs.code.Nodes.{AreOne, named_nodes};
@@ -20,7 +20,8 @@ use njh_hub::{FileSummaryView, Hub};
 use njh_spool::State;
 use sqlite::{Alter, Error};
 
-/// Writes anew what changed of a file that was there.
+/// Writes anew what changed of a file that was there: its row, if it was sent elsewhere, or is Held
+/// now and wasn't, or the other way.
 pub(crate) fn follow_one<S: Alter + Drop>(
     writer: &mut SpoolWriter<S>,
     own: &mut OwnFiles,
@@ -40,84 +41,46 @@ pub(crate) fn follow_one<S: Alter + Drop>(
     ensures crash { Survives (shown S.Store writer.old.store) (shown S.Store writer.new.store) (λ _. ⊥) }
 {
     let kept = own.whole[place];
-    if is_rewritten(&kept, hub, file, summary) {
-        return rewrite_one(writer, own, place, hub, file, summary);
-    }
-    change_state(writer, own, place, hub, file, summary)
-}
-
-/// Writes the row of a file anew that was sent elsewhere: it says so, and the records stay.
-fn rewrite_one<S: Alter + Drop>(
-    writer: &mut SpoolWriter<S>,
-    own: &mut OwnFiles,
-    place: usize,
-    hub: &Hub,
-    file: &HubFile,
-    summary: &FileSummaryView,
-) -> Result<(), Error>
-    requires { place < length own.old.whole.items }
-    ensures led { (g : WholeFile) → IsHubFile hub.now file.now summary.now g
-        → (k : KeptWhole) → k ≡ get_or own.old.whole.items place k
-        → (k.destination ≡ summary.now.destination → AreOne (named_nodes None g.records))
-        → HasCleanDisk (shown S.Store writer.new.store)
-        → OnOk result (LeadsFiles (λ s files. IsStillAt files place g) (λ files now. now ≡ set files place g)
-        (stage_of S.Store writer.old own.old) (stage_of S.Store writer.new own.new)) }
-    ensures long { length own.new.whole.items ≡ length own.old.whole.items }
-    ensures grows { OnOk result (Grows writer.old own.old writer.new own.new) }
-    ensures due { OnOk result (writer.new.is_changed ≡ true) }
-    ensures crash { Survives (shown S.Store writer.old.store) (shown S.Store writer.new.store) (λ _. ⊥) }
-{
-    let kept = own.whole[place];
-    let now = KeptWhole {
-        state: summary.state,
-        destination: summary.destination,
-        is_mixed: false,
-        is_sent: is_name(&summary.destination.node),
-        ..kept
-    };
-    change_row(writer, own, hub, file, &now, summary)?;
-    own.whole[place] = now;
-    Ok(())
-}
-
-/// Notes a file's state. Where it is Held now and wasn't, or the other way, its row is written
-/// anew.
-fn change_state<S: Alter + Drop>(
-    writer: &mut SpoolWriter<S>,
-    own: &mut OwnFiles,
-    place: usize,
-    hub: &Hub,
-    file: &HubFile,
-    summary: &FileSummaryView,
-) -> Result<(), Error>
-    requires { place < length own.old.whole.items }
-    ensures led { (g : WholeFile) → IsHubFile hub.now file.now summary.now g
-        → (k : KeptWhole) → k ≡ get_or own.old.whole.items place k → k.destination ≡ summary.now.destination
-        → (k.is_mixed ≡ true → ¬ AreOne (named_nodes None g.records)) → HasCleanDisk (shown S.Store writer.new.store)
-        → OnOk result (LeadsFiles (λ s files. IsStillAt files place g) (λ files now. now ≡ set files place g)
-        (stage_of S.Store writer.old own.old) (stage_of S.Store writer.new own.new)) }
-    ensures long { length own.new.whole.items ≡ length own.old.whole.items }
-    ensures grows { OnOk result (Grows writer.old own.old writer.new own.new) }
-    ensures quiet { OnOk result (IsQuiet writer.old writer.new) }
-    ensures crash { Survives (shown S.Store writer.old.store) (shown S.Store writer.new.store) (λ _. ⊥) }
-{
-    let kept = own.whole[place];
-    let now = KeptWhole {
-        state: summary.state,
-        ..kept
-    };
-    if changes_hold(kept.state, summary.state) {
+    let is_sent_on = is_rewritten(&kept, hub, file, summary);
+    let now = kept_now(kept, is_sent_on, summary);
+    if changes_row(is_sent_on, kept.state, now.state) {
         change_row(writer, own, hub, file, &now, summary)?;
     }
     own.whole[place] = now;
     Ok(())
 }
 
-/// Whether a file is Held now and wasn't, or the other way.
-fn changes_hold(before: State, now: State) -> bool
-    ensures { result ≡ false → is_held now ≡ is_held before }
+/// What is remembered of a file that was there. The headers of one that was sent elsewhere name
+/// that node alone, and its row says so.
+fn kept_now(kept: KeptWhole, is_sent_on: bool, summary: &FileSummaryView) -> KeptWhole
+    ensures sent_on { is_sent_on ≡ true → result ≡ record kept {
+      state = summary.now.state;
+      destination = summary.now.destination;
+      is_mixed = false;
+      is_sent = is_name summary.now.destination.node;
+    } }
+    ensures still { is_sent_on ≡ false → result ≡ record kept { state = summary.now.state } }
+    ensures records { result.records ≡ kept.records }
 {
-    is_held(now) != is_held(before)
+    let state = summary.state;
+    if !is_sent_on {
+        return KeptWhole { state, ..kept };
+    }
+    KeptWhole {
+        state,
+        destination: summary.destination,
+        is_mixed: false,
+        is_sent: is_name(&summary.destination.node),
+        ..kept
+    }
+}
+
+/// Whether a file's row is another now: it was sent elsewhere, or is Held now and wasn't, or the
+/// other way.
+fn changes_row(is_sent_on: bool, before: State, now: State) -> bool
+    ensures { result ≡ false → (is_sent_on ≡ false) × (is_held now ≡ is_held before) }
+{
+    is_sent_on || is_held(now) != is_held(before)
 }
 
 /// Puts a whole file's row as it is now in the place of the one that it had.

@@ -1,7 +1,6 @@
 -- What calls of the keeper make of a customer's whole files on a spool file.
-use Rattle.std.specs.Prelude.{◌≡◌, ◌⊎◌, ℕ, ◌+◌, ◌<◌, ◌≤◌, Bool, true, false, List, [], ◌∷◌, ◌++◌, length, get_or, take}
-use Rattle.std.specs.Prelude.{string_bytes}
-use Rattle.std.specs.Prelude.{Option, Some, None}
+use Rattle.std.specs.Prelude.{◌≡◌, ◌≢◌, ◌⊎◌, ℕ, ◌+◌, ◌<◌, ◌≤◌, Bool, true, false, List, [], ◌∷◌, ◌++◌, length}
+use Rattle.std.specs.Prelude.{get_or, string_bytes, take}
 use Rattle.std.specs.List.{AllByRecursion}
 use Rattle.sqlite.specs.State.{State}
 use Rattle.sqlite.specs.Store.{Ghosts}
@@ -86,17 +85,6 @@ LeadsFiles Given Becomes before after =
     → (now : List WholeFile) × Becomes files now × GoesTo before.memory after.memory s t now) before.shows after.shows
 
 -- ---- beside the hub's files
-
--- At the place stands a file of this number; if none is given, no file does.
-pub record IsFoundAt (number : ℕ) (files : List WholeFile) (place : ℕ) : Type 0 where
-  pub file : WholeFile
-  pub there : place < length files
-  pub is : file ≡ get_or files place file
-  pub number_is : file.number ≡ number
-
-abbrev pub IsReached : Option ℕ → List WholeFile → ℕ → Type 0
-IsReached None files place = length files ≤ place
-IsReached (Some number) files place = IsFoundAt number files place
 
 -- Of each file that isn't whole what is kept is a front of the records of the file that it became, as they were before
 -- that was sent elsewhere: so many records stand under its number.
@@ -197,6 +185,13 @@ LeadsInHand key written g before after =
 pub record IsAt (files : List WholeFile) (place : ℕ) (file : WholeFile) : Type 0 where
   pub there : place < length files
   pub is : file ≡ get_or files place file
+
+-- Where a file is remembered at a place, it is found: the file that stands there now has its number, or has another.
+pub record IsSought (whole : List KeptWhole) (still : List WholeFile) (place : ℕ) (found : Bool) : Type 0 where
+  pub kept : KeptWhole
+  pub is : kept ≡ get_or whole place kept
+  pub same : found ≡ true → (f : WholeFile) → IsAt still place f → kept.number ≡ f.number
+  pub other : found ≡ false → (f : WholeFile) → IsAt still place f → kept.number ≢ f.number
 
 -- These were a customer's whole files when so many had become whole; since then they went on to be those that it has
 -- now.

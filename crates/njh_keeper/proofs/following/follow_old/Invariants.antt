@@ -1,7 +1,10 @@
 use Rattle.njh_keeper.proofs.Words
-use Words.{◌≡◌, take, HasCleanDisk, Survives, shown, Survive, part, Grows, IsQuiet, LeadsFiles, stage_of, AreNumbered}
-use Words.{IsWalkedTo}
+use Words.{◌-◌, length, take, HasCleanDisk, Survives, shown, Survive, part, Grows, IsQuiet, LeadsFiles, stage_of}
+use Words.{AreNumbered, IsWalkedTo}
 use Rattle.njh_keeper.proofs.following.follow_old.Given as goal
+
+abbrev pub decreases-loop-index : goal.decreases-loop-index
+decreases-loop-index g l = length l.own.whole.items - l.index
 
 -- so many files were followed
 abbrev pub invariant-loop-index : goal.invariant-loop-index
@@ -11,7 +14,6 @@ invariant-loop-index g l =
     let whole = (part l.customer l.hub).customer.spool.whole in
     record {
       crash : Survives first now (λ _. ⊥);
-      place : l.place ≡ l.index;
       led : AreNumbered whole → HasCleanDisk now
           → LeadsFiles (λ s files. Survive files (take l.old whole) × AreNumbered files)
           (λ files here. IsWalkedTo (take l.old whole) here l.index)
